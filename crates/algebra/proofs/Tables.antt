@@ -1,0 +1,49 @@
+-- The laws of a matrix laid out row by row (`table` of specs/Matrix.antt).
+-- Assumes nothing.
+use mathlib.Core.Path.{_≡_, refl, sym, ap, _∙_}
+use mathlib.Core.List.{List, map}
+use Prim.Native.Nat.{ℕ, _+_, _*_, _/_, _%_, _≤_, _<_}
+use native.Mathlib.Nat.{div-add-mod'}
+use native.Mathlib.Omega.{arith}
+use lib.ListN.{length, getD}
+use lib.Arith.{digits-lt, digits-div, digits-mod}
+use Rattle.lists.specs.Lists.{tab, residues}
+use Rattle.lists.proofs.Tables.{length-tab, getD-tab, tab-cong, map-of-tab}
+use Rattle.algebra.specs.Matrix.{Matrix, mat, table}
+
+-- rows times cols entries
+pub length-table : (rows cols : ℕ) (f : Matrix) → length (table rows cols f) ≡ rows * cols
+unfolding table
+length-table rows cols f = length-tab (rows * cols) (λ t. f (t / cols) (t % cols))
+
+-- the entry at row i and column j
+pub getD-table : (rows cols : ℕ) (f : Matrix) (i j : ℕ) → i < rows → j < cols → getD (table rows cols f) (i * cols + j) 0 ≡ f i j
+unfolding table
+getD-table rows cols f i j hi hj =
+    getD-tab (rows * cols) (λ t. f (t / cols) (t % cols)) (i * cols + j) (digits-lt hi hj)
+    ∙ rw (digits-div i hj, digits-mod i hj)
+
+-- the entry at place t
+pub getD-flat : (rows cols : ℕ) (f : Matrix) (t : ℕ) → t < rows * cols → getD (table rows cols f) t 0 ≡ f (t / cols) (t % cols)
+unfolding table
+getD-flat rows cols f t h = getD-tab (rows * cols) (λ t. f (t / cols) (t % cols)) t h
+
+-- a function of each entry
+pub map-table : (g : ℕ → ℕ) (rows cols : ℕ) (f : Matrix) → map g (table rows cols f) ≡ table rows cols (λ i j. g (f i j))
+unfolding table
+map-table g rows cols f = map-of-tab g (rows * cols) (λ t. f (t / cols) (t % cols))
+
+-- the element at place t of a list, by its row and column
+pub place : (l : List ℕ) (cols t : ℕ) → getD l t 0 ≡ mat cols l (t / cols) (t % cols)
+place l cols t = ap (λ (z : ℕ). getD l z 0) (sym (div-add-mod' t cols))
+
+-- a list given place by place is the table
+pub is-table : (rows cols : ℕ) (f : Matrix) (g : ℕ → ℕ) {n : ℕ} → n ≡ rows * cols → ((t : ℕ) → t < rows * cols → g t ≡ f (t / cols) (t % cols))
+    → tab n g ≡ table rows cols f
+unfolding table
+is-table rows cols f g {n} q h = ap (λ (z : ℕ). tab z g) q ∙ tab-cong (rows * cols) g (λ t. f (t / cols) (t % cols)) h
+
+-- the same for entries that are kept mod m
+pub words-table : (m rows cols : ℕ) (f : Matrix) (g : ℕ → ℕ) {n : ℕ} → n ≡ rows * cols → ((t : ℕ) → t < rows * cols → g t ≡ f (t / cols) (t % cols) % m)
+    → tab n g ≡ residues m (table rows cols f)
+words-table m rows cols f g {n} q h = is-table rows cols (λ i j. f i j % m) g q h ∙ sym (map-table (λ w. w % m) rows cols f)

@@ -1,0 +1,4 @@
+-- The laws of bits, digits and little-endian words.
+pub mod Stream
+pub mod Digits
+pub mod Little
