@@ -1,4 +1,4 @@
--- Bits highest first, as FrodoKEM's Pack and Unpack have them (standard proposal, section 7.4): words as a stream of bits, and a stream of bits as words.
+-- Bits highest first, as Frodo.Pack and Frodo.Unpack of the FrodoKEM standard proposal (2023) have them: words as a stream of bits, and a stream of bits as words.
 -- Assumes nothing.
 use mathlib.Core.List.{List, [], _∷_, _++_}
 use Prim.Native.Nat.{ℕ, zero, suc, _+_, _*_, _/_, _%_, _^_}

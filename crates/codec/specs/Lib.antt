@@ -1,0 +1,2 @@
+-- Packing of words.
+pub mod Pack

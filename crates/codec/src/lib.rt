@@ -1,0 +1,1 @@
+// Packed words.

@@ -1,0 +1,2 @@
+-- FIPS 202, section 3.
+pub mod Keccak

@@ -1,0 +1,2 @@
+-- Coding of messages.
+pub mod Message

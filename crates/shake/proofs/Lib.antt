@@ -1,0 +1,2 @@
+-- The laws of SHAKE that callers cite.
+pub mod Length

@@ -1,0 +1,1 @@
+// SHAKE128 and SHAKE256.
