@@ -1,0 +1,2 @@
+-- The laws of sampling.
+pub mod Bounds

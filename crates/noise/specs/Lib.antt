@@ -1,0 +1,2 @@
+-- Sampling of noise.
+pub mod Noise

@@ -1,0 +1,1 @@
+// Noise from random words.

@@ -1,0 +1,2 @@
+-- Rows of A.
+pub mod Row
