@@ -4,7 +4,7 @@
 use mathlib.Core.Path.{_≡_, sym, ap, _∙_}
 use mathlib.Core.Logic.{_↔_}
 use Prim.Native.Nat.{ℕ, suc, _+_, _*_, _-_, _/_, _%_, _^_, _≤_, _<_}
-use native.Mathlib.Nat.{mod-lt, mod-eq-of-lt, mod-self, mul-pos, mul-add-div-right, div-lt-iff-lt-mul, le-div-iff-mul-le, div-eq-of-lt-le}
+use native.Mathlib.Nat.{mod-lt, mod-eq-of-lt, mod-self, mul-pos, mul-add-div-right, div-lt-iff-lt-mul, le-div-iff-mul-le, div-eq-of-lt-le, pow-succ'}
 use native.Mathlib.Decide.{decLt}
 use native.Mathlib.Omega.{arith}
 use lib.IntN.{ℤ, pos, subℕ, _+ℤ_}
@@ -13,14 +13,13 @@ use Rattle.algebra.specs.Congruence.{Same, minus}
 use Rattle.algebra.specs.Whole.{floorDiv, modulo, centred}
 use Rattle.algebra.proofs.Congruences.{same-of, same-out, same-refl, same-eq, same-sym, same-trans, same-mod, same-add, same-cancel, same-below, minus-add, minus-lt}
 use Rattle.algebra.proofs.Wholes.{sub-plus, plus-sub, floor-sub, modulo-sub, sub-ge-neg, sub-lt-pos}
-use Rattle.sets.specs.Sets.{Valid}
-use Rattle.sets.specs.declared.Params.{Params}
 use Rattle.message.specs.Message.{half, wordOf, groupOf}
+use Rattle.message.specs.Coding.{Coding}
+use Rattle.message.proofs.Steps.{whole, twice, half-pos}
 use Rattle.scheme.specs.Noise.{InRange}
-use Rattle.scheme.proofs.Steps.{half-pos, step-is, groups-even, q-steps}
 
 -- m and floor((e + h) / 2h), mod g, where e stands for its centred value
-abbrev drifted : (q h g m e : ℕ) → ℕ
+abbrev pub drifted : (q h g m e : ℕ) → ℕ
 drifted q h g m e = modulo (pos m +ℤ floorDiv (centred q e +ℤ pos h) (2 * h)) g
 
 module _ (q h g c : ℕ) (hh : 0 < h) (hc : 0 < c) (hg : g ≡ 2 * c) (hq : q ≡ g * (2 * h)) where
@@ -129,17 +128,24 @@ module _ (q h g c : ℕ) (hh : 0 < h) (hc : 0 < c) (hg : g ≡ 2 * c) (hq : q �
       let r = in-range e in
       (λ d. r .0 (t .0 (sym (drifted-is m e) ∙ d)), λ d. drifted-is m e ∙ t .1 (r .1 d))
 
--- ---- a set's groups
+-- ---- the same in a set's q and b
 
-module _ (p : Params) (valid : Valid p) where
+module _ {q b : ℕ} (k : Coding q b) where
+  -- the count of groups is even
+  even : 2 ^ b ≡ 2 * 2 ^ (b - 1)
+  even = ap (λ (x : ℕ). 2 ^ x) (omega (arith, k .b-low)) ∙ pow-succ' 2 (b - 1)
+
+  -- q words are as many steps as there are groups
+  steps : q ≡ 2 ^ b * (2 * half q b)
+  steps = sym (whole k) ∙ ap (λ (x : ℕ). 2 ^ b * x) (sym (twice k))
+
   -- request Thirteen for one group: its word with e added decodes to the group and floor((e + h) / 2h), mod 2^b
-  pub group-drifts : (m e w : ℕ) → Same (p .q) w (wordOf (p .q) (p .b) m + e) → groupOf (p .q) (p .b) w ≡ drifted (p .q) (half (p .q) (p .b)) (2 ^ p .b) m e
+  pub group-drifts : (m e w : ℕ) → Same q w (wordOf q b m + e) → groupOf q b w ≡ drifted q (half q b) (2 ^ b) m e
   unfolding groupOf wordOf rounded
   group-drifts m e w s =
-      decoded-drifts (p .q) (half (p .q) (p .b)) (2 ^ p .b) (2 ^ (p .b - 1)) (half-pos p valid) (pow-pos (p .b - 1)) (groups-even p valid) (q-steps p valid) m e w
-      (same-trans s (same-eq (p .q) (ap (λ (x : ℕ). m * x + e) (step-is p valid))))
+      decoded-drifts q (half q b) (2 ^ b) (2 ^ (b - 1)) (half-pos k) (pow-pos (b - 1)) even steps m e w
+      (same-trans s (same-eq q (ap (λ (x : ℕ). m * x + e) (sym (twice k)))))
 
   -- it decodes to the group exactly where e is in range
-  pub group-kept : (m e : ℕ) → m < 2 ^ p .b → (drifted (p .q) (half (p .q) (p .b)) (2 ^ p .b) m e ≡ m) ↔ InRange (half (p .q) (p .b)) (centred (p .q) e)
-  group-kept m e l =
-      drifts-not (p .q) (half (p .q) (p .b)) (2 ^ p .b) (2 ^ (p .b - 1)) (half-pos p valid) (pow-pos (p .b - 1)) (groups-even p valid) (q-steps p valid) m e l
+  pub group-kept : (m e : ℕ) → m < 2 ^ b → (drifted q (half q b) (2 ^ b) m e ≡ m) ↔ InRange (half q b) (centred q e)
+  group-kept m e l = drifts-not q (half q b) (2 ^ b) (2 ^ (b - 1)) (half-pos k) (pow-pos (b - 1)) even steps m e l
