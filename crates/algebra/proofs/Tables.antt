@@ -3,12 +3,13 @@
 use mathlib.Core.Path.{_≡_, refl, sym, ap, _∙_}
 use mathlib.Core.List.{List, map}
 use Prim.Native.Nat.{ℕ, _+_, _*_, _/_, _%_, _≤_, _<_}
-use native.Mathlib.Nat.{div-add-mod'}
+use native.Mathlib.Nat.{div-add-mod', mod-mod}
 use native.Mathlib.Omega.{arith}
 use lib.ListN.{length, getD}
 use lib.Arith.{digits-lt, digits-div, digits-mod}
 use Rattle.lists.specs.Lists.{tab, residues}
 use Rattle.lists.proofs.Tables.{length-tab, getD-tab, tab-cong, map-of-tab}
+use Rattle.algebra.specs.Congruence.{Same}
 use Rattle.algebra.specs.Matrix.{Matrix, mat, table}
 
 -- rows times cols entries
@@ -32,6 +33,11 @@ getD-flat rows cols f t h = getD-tab (rows * cols) (λ t. f (t / cols) (t % cols
 pub map-table : (g : ℕ → ℕ) (rows cols : ℕ) (f : Matrix) → map g (table rows cols f) ≡ table rows cols (λ i j. g (f i j))
 unfolding table
 map-table g rows cols f = map-of-tab g (rows * cols) (λ t. f (t / cols) (t % cols))
+
+-- an entry of a table that is kept mod q
+pub same-entry : (q rows cols : ℕ) (f : Matrix) (i j : ℕ) → i < rows → j < cols → Same q (mat cols (residues q (table rows cols f)) i j) (f i j)
+same-entry q rows cols f i j hi hj =
+    record { eq = ap (λ (l : List ℕ). mat cols l i j % q) (map-table (λ w. w % q) rows cols f) ∙ ap (λ (z : ℕ). z % q) (getD-table rows cols (λ i j. f i j % q) i j hi hj) ∙ mod-mod (f i j) q }
 
 -- the element at place t of a list, by its row and column
 pub place : (l : List ℕ) (cols t : ℕ) → getD l t 0 ≡ mat cols l (t / cols) (t % cols)

@@ -1,4 +1,5 @@
 -- The laws of bits, digits and little-endian words.
 pub mod Stream
+pub mod Regroup
 pub mod Digits
 pub mod Little

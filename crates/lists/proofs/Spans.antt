@@ -26,6 +26,16 @@ length-part a b s l = ap (λ (n : ℕ). length (take n (drop a s))) (add-sub-can
 pub room : (b k n : ℕ) → k < n → b * k + b ≤ b * n
 room b k n l = subst (λ (m : ℕ). m ≤ b * n) (mul-suc b k) (mul-le-mul-left b l)
 
+-- ---- parts of lists in a row
+
+-- the second of three
+pub part-at : (xs ys zs : List ℕ) (a b : ℕ) → length xs ≡ a → length ys ≡ b → take b (drop a (xs ++ (ys ++ zs))) ≡ ys
+part-at xs ys zs a b e f = ap (take b) (drop-at xs (ys ++ zs) a e) ∙ take-at ys zs b f
+
+-- what stands behind the first two
+pub rest-at : (xs ys zs : List ℕ) (a b : ℕ) → length xs ≡ a → length ys ≡ b → drop (a + b) (xs ++ (ys ++ zs)) ≡ zs
+rest-at xs ys zs a b e f = sym (drop-drop b a (xs ++ (ys ++ zs))) ∙ ap (drop b) (drop-at xs (ys ++ zs) a e) ∙ drop-at ys zs b f
+
 -- ---- one part put back
 
 module _ (a k : ℕ) (xs ys : List ℕ) (h : a + k ≤ length xs) (q : length ys ≡ k) where

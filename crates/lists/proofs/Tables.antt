@@ -1,13 +1,16 @@
--- Laws of a list given by its elements (`tab`), of `residues`, and of `Below`.
+-- Laws of a list given by its elements (`tab`), of `residues`, of `Below` and of `equal`.
 -- Assumes nothing.
 use mathlib.Core.Path.{_≡_, refl, sym, ap, ap₂, _∙_, subst}
+use mathlib.Core.Bool.{Bool, true, false, _&&_}
 use mathlib.Core.List.{List, [], _∷_, _++_, map}
 use Prim.Native.Nat.{ℕ, zero, suc, _+_, _-_, _%_, _≤_, _<_, suc-le-suc}
 use native.Mathlib.Nat.{not-suc-le-zero, le-of-suc-le-suc, zero-lt-suc, zero-add, suc-add, zero-mod, mod-lt, mod-eq-of-lt}
 use native.Mathlib.Omega.{arith}
+use lib.Dec.{eqb}
 use lib.ListN.{length, getD, take, drop, replicate, List·getD-map}
 use lib.Seq.{ext-getD}
-use Rattle.lists.specs.Lists.{tab, residues, Below}
+use borrow.Author.Tests.{eqb-true, eq-eqb}
+use Rattle.lists.specs.Lists.{tab, residues, Below, equal}
 
 -- two lists agree where their heads and their tails do
 pub cons : {x y : ℕ} {xs ys : List ℕ} → x ≡ y → xs ≡ ys → x ∷ xs ≡ y ∷ ys
@@ -84,6 +87,12 @@ replicate-tab (suc n) v = ap (λ (l : List ℕ). v ∷ l) (replicate-tab n v)
 pub getD-map0 : (f : ℕ → ℕ) (l : List ℕ) (i : ℕ) → f 0 ≡ 0 → getD (map f l) i 0 ≡ f (getD l i 0)
 getD-map0 f l i e = subst (λ (d : ℕ). getD (map f l) i d ≡ f (getD l i 0)) e (List·getD-map f l i 0)
 
+-- element i of a map, where there is one
+pub getD-map-lt : (f : ℕ → ℕ) (l : List ℕ) (i : ℕ) → i < length l → getD (map f l) i 0 ≡ f (getD l i 0)
+getD-map-lt f [] i h = absurd (not-suc-le-zero h)
+getD-map-lt f (x ∷ l) zero h = refl
+getD-map-lt f (x ∷ l) (suc i) h = getD-map-lt f l i (le-of-suc-le-suc h)
+
 -- two functions that agree on every element
 pub map-cong : (f g : ℕ → ℕ) (l : List ℕ) → ((x : ℕ) → f x ≡ g x) → map f l ≡ map g l
 map-cong f g [] h = refl
@@ -133,3 +142,24 @@ pub below-tab : {b : ℕ} (n : ℕ) (g : ℕ → ℕ) → 0 < b → ((k : ℕ) �
 below-tab zero g p h i = p
 below-tab (suc n) g p h zero = h zero
 below-tab (suc n) g p h (suc i) = below-tab n (λ k. g (suc k)) p (λ k. h (suc k)) i
+
+-- ---- the test that two lists are equal
+
+-- both of two tests hold where their conjunction does
+pub both-true : (a b : Bool) → (a && b) ≡ true → (a ≡ true) × (b ≡ true)
+both-true true b e = (refl, e)
+both-true false b e = (cc, cc)
+
+-- a list is equal to itself
+pub equal-refl : (l : List ℕ) → equal l l ≡ true
+unfolding equal
+equal-refl [] = refl
+equal-refl (x ∷ l) = rw (eq-eqb x x refl) (equal-refl l)
+
+-- lists that pass the test are equal
+pub equal-true : (xs ys : List ℕ) → equal xs ys ≡ true → xs ≡ ys
+unfolding equal
+equal-true [] [] e = refl
+equal-true [] (y ∷ ys) e = cc
+equal-true (x ∷ xs) [] e = cc
+equal-true (x ∷ xs) (y ∷ ys) e = let b = both-true (eqb x y) (equal xs ys) e in cons (eqb-true x y (b .0)) (equal-true xs ys (b .1))

@@ -1,2 +1,3 @@
 -- Coding of messages.
 pub mod Message
+pub mod Coding

@@ -1,2 +1,3 @@
 -- The laws of sampling.
 pub mod Bounds
+pub mod Counts

@@ -1,0 +1,3 @@
+-- The laws of message coding.
+pub mod Steps
+pub mod RoundTrip

@@ -1,0 +1,8 @@
+-- The laws of the scheme, and the third demand.
+pub mod Decode
+pub mod Leftover
+pub mod Parts
+pub mod Keys
+pub mod Ciphertexts
+pub mod Groups
+pub mod Demand3
