@@ -3,3 +3,4 @@ pub mod Tables
 pub mod Loops
 pub mod Spans
 pub mod Parts
+pub mod Pairs
