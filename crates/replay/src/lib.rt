@@ -1,5 +1,6 @@
 // What the replay programs share: lists of answers as text, one a line, fields between single spaces, bytes as hex digits, '-' for no bytes.
 // A list that is malformed leads to answers that do not agree, and never out of bounds.
+ghost use mathlib.Core.Path.{_≡_};
 ghost use Prim.Native.Nat.{_+_, _≤_, _<_};
 ghost use lib.ListN.{length};
 
@@ -91,12 +92,50 @@ pub fn decimal(text: &[u8]) -> usize
     }
 }
 
-// Prints a name, a count of agreeing answers and the count of all.
-pub fn report(name: &[u8], right: usize, all: usize) {
+// Agreeing answers, and all of them. It stops counting at a million.
+pub struct Tally {
+    pub right: usize,
+    pub all: usize,
+}
+
+impl Tally {
+    pub fn new() -> Self
+        ensures { λ r. ⌜ (r .right ≡ 0) × (r .all ≡ 0) ⌝ }
+    {
+        Self { right: 0, all: 0 }
+    }
+
+    // With one answer more.
+    pub fn with(self, agrees: bool) -> Self
+        ensures { λ r. ⌜ r .all ≤ self .all + 1 ⌝ }
+    {
+        let right = self.right;
+        let all = self.all;
+        if 1000000 <= all {
+            return self;
+        }
+        if 1000000 <= right {
+            return self;
+        }
+        if agrees {
+            return Self {
+                right: right + 1,
+                all: all + 1,
+            };
+        }
+        Self {
+            right,
+            all: all + 1,
+        }
+    }
+}
+
+// Prints what was replayed, and how many of its answers agree.
+pub fn report(name: &[u8], tally: Tally) {
     io::write_all(1, name);
     io::write_all(1, b": ");
-    io::print_decimal(1, right as u64);
+    io::print_decimal(1, tally.right as u64);
     io::write_all(1, b" of ");
-    io::print_decimal(1, all as u64);
+    io::print_decimal(1, tally.all as u64);
     io::write_all(1, b" agree\n");
 }
