@@ -8,7 +8,7 @@ use native.Mathlib.Omega.{arith}
 use lib.ListN.{length, getD}
 use Rattle.lists.proofs.Tables.{getD-map0, getD-map-lt}
 use Rattle.algebra.specs.Congruence.{Same, minus}
-use Rattle.algebra.specs.Matrix.{mat, matT, _⊕_, mul}
+use Rattle.algebra.specs.Matrix.{mat, matT, mul}
 use Rattle.algebra.proofs.Congruences.{same-eq, same-trans}
 use Rattle.algebra.proofs.Tables.{getD-table, same-entry}
 use Rattle.sets.specs.Sets.{Valid}
@@ -53,12 +53,12 @@ module _ (p : Params) (valid : Valid p) (seed msg salt : List ℕ) (enough : len
       let C = mat 8 (ctC p (sealed p seed msg salt)) in
       same-trans
       (same-eq (p .q)
-      (getD-table 8 8 (λ i j. minus (p .q) (C i j) (mul n B' (matT n (skMatrixS p (secretKey p seed))) i j)) i j hi hj
+      (getD-table 8 8 _ i j hi hj
       ∙ ap (λ (s : List ℕ). minus (p .q) (C i j) (mul n B' (matT n s) i j)) (sk-matrixS p valid seed enough)))
       (opened-noise (p .q) n A S E S' E' E'' M B B' C i j (q-pos p valid)
-      (λ k l. rw (pk-B p valid seed) (same-entry (p .q) n 8 (mul n A S ⊕ E) k j l hj))
-      (λ k l. rw (ct-B p valid pk msg salt, pk-seedA p valid seed) (same-entry (p .q) 8 n (mul n S' A ⊕ E') i k hi l))
-      (rw (ct-C p valid pk msg salt) (same-entry (p .q) 8 8 (mul n S' B ⊕ E'' ⊕ M) i j hi hj)))
+      (λ k l. rw (pk-B p valid seed) (same-entry (p .q) n 8 _ k j l hj))
+      (λ k l. rw (ct-B p valid pk msg salt, pk-seedA p valid seed) (same-entry (p .q) 8 n _ i k hi l))
+      (rw (ct-C p valid pk msg salt) (same-entry (p .q) 8 8 _ i j hi hj)))
 
   -- the recovered groups are the groups of what is decoded
   groups-are : groupsOf (p .b) (recoveredMessage p seed msg salt) ≡ map (groupOf (p .q) (p .b)) (opened p (secretKey p seed) (sealed p seed msg salt))
