@@ -3,10 +3,10 @@
 use mathlib.Core.Path.{_≡_, sym, ap, _∙_}
 use mathlib.Core.Bool.{true}
 use mathlib.Core.List.{List, _++_}
-use Prim.Native.Nat.{ℕ, _+_, _*_, _≤_}
+use Prim.Native.Nat.{ℕ, _*_}
 use native.Mathlib.Omega.{arith}
-use lib.ListN.{length, take, drop, take-append-drop}
-use lib.Seq.{drop-drop, length-take-le}
+use lib.ListN.{length, drop}
+use lib.Seq.{length-take-le}
 use Rattle.lists.specs.Lists.{residues, Below, equal}
 use Rattle.lists.proofs.Tables.{below-take, below-drop, both-true, equal-true}
 use Rattle.lists.proofs.Spans.{length-mid, parts-whole}
@@ -25,7 +25,7 @@ module _ (p : Params) (valid : Valid p) where
   pack-back c ws bs l h e =
       sym (packed-mod (p .d) ws) ∙ ap (λ (q : ℕ). packed (p .d) (residues q ws)) (sym (valid .q-is)) ∙ ap (packed (p .d)) e ∙ pack-unpack (p .d) c (d-pos p valid) bs l h
 
-  -- under a key whose pkh is the hash of its public key
+  -- bytes whose matrices agree with a message, under a key whose pkh is the hash of its public key, are what that key makes of the message and the bytes' own salt
   pub accepted : (sk ct msg : List ℕ) → length ct ≡ p .ct → Below 256 ct → skPkh p sk ≡ pkhOf p (skPk p sk) → agrees p sk ct msg ≡ true
       → ciphertext p (skPk p sk) msg (ctSalt p ct) ≡ ct
   unfolding agrees ciphertext

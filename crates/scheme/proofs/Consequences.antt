@@ -1,6 +1,6 @@
--- What follows from the third demand and from the layouts: a group depends on its own entry alone, and the law behind repair.
+-- What follows from the third demand and from the layouts: a group depends on its own entry alone, a ciphertext tells its salt, and the law behind repair.
 -- Assumes nothing.
-use mathlib.Core.Path.{_≡_, sym, ap, ap₂, _∙_}
+use mathlib.Core.Path.{_≡_, sym, ap, _∙_}
 use mathlib.Core.List.{List}
 use Prim.Native.Nat.{ℕ, _+_, _*_, _^_, _<_}
 use lib.IntN.{pos, _+ℤ_}
@@ -15,6 +15,7 @@ use Rattle.scheme.specs.Decaps.{skPk, ctSalt, decapsMessage}
 use Rattle.scheme.specs.Noise.{centredAt}
 use Rattle.scheme.specs.Demand3.{sealed, recoveredMessage, Demand3}
 use Rattle.scheme.proofs.Keys.{sk-pk}
+use Rattle.scheme.proofs.Ciphertexts.{ct-salt}
 
 -- two sealings that send one group at an entry and have one noise there get one group back there, whatever they have elsewhere
 pub group-alone : {p : Params} {seed msg salt seed' msg' salt' : List ℕ} → Demand3 p seed msg salt → Demand3 p seed' msg' salt'
@@ -27,6 +28,10 @@ group-alone {p} d d' i j hi hj sent noise =
     d .groupwise i j hi hj
     ∙ (λ k. modulo (pos (sent k) +ℤ floorDiv (noise k +ℤ pos (half (p .q) (p .b))) (2 * half (p .q) (p .b))) (2 ^ p .b))
     ∙ sym (d' .groupwise i j hi hj)
+
+-- one ciphertext has one salt
+pub same-salt : (p : Params) → Valid p → (pk msg salt pk' msg' salt' : List ℕ) → ciphertext p pk msg salt ≡ ciphertext p pk' msg' salt' → salt ≡ salt'
+same-salt p valid pk msg salt pk' msg' salt' e = sym (ct-salt p valid pk msg salt) ∙ ap (ctSalt p) e ∙ ct-salt p valid pk' msg' salt'
 
 -- ---- repair: any bytes that a generated key opens to a sealed message, and that carry its salt, tell the sealed ciphertext and its secret
 

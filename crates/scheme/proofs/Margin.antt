@@ -1,8 +1,8 @@
 -- The laws of the margin (specs/Margin.antt): the largest size as a loop gathers it, a word's size as code finds it, and that message and secret come back where
 -- the size is below h.
 -- Assumes nothing.
-use mathlib.Core.Path.{_≡_, sym, ap, _∙_, subst}
-use mathlib.Core.Logic.{_⊎_, inl, inr}
+use mathlib.Core.Path.{_≡_, ap, _∙_}
+use mathlib.Core.Logic.{inl, inr}
 use mathlib.Core.Bool.{true}
 use mathlib.Core.List.{List}
 use Prim.Native.Nat.{ℕ, zero, suc, _+_, _*_, _-_, _/_, _%_, _≤_, _<_, max}
@@ -22,7 +22,7 @@ use Rattle.scheme.specs.KeyGen.{publicKey}
 use Rattle.scheme.specs.Encaps.{sharedSecret}
 use Rattle.scheme.specs.Noise.{noiseAt, InRange, AllInRange}
 use Rattle.scheme.specs.Margin.{largest, sizeOf, largestSize, keptBy, noiseTable, marginSize, kept}
-use Rattle.scheme.specs.Demand3.{recoveredMessage, recoveredSecret, Demand3}
+use Rattle.scheme.specs.Demand3.{recoveredMessage, recoveredSecret}
 use Rattle.scheme.proofs.Demand3.{demand3}
 
 -- ---- the largest of some numbers
@@ -67,7 +67,7 @@ size-in-range q h x l =
 
 -- ---- the margin
 
-module _ (p : Params) (valid : Valid p) (seed msg salt : List ℕ) where
+module _ (p : Params) (seed msg salt : List ℕ) where
   -- where the margin's size is below h every entry is in range
   pub margin-in-range : marginSize p seed msg salt < half (p .q) (p .b) → AllInRange p seed msg salt
   unfolding largestSize
@@ -83,9 +83,9 @@ module _ (p : Params) (valid : Valid p) (seed msg salt : List ℕ) where
   kept-in-range e = margin-in-range (ltb-true (marginSize p seed msg salt) (half (p .q) (p .b)) e)
 
   -- a kept margin: the message comes back, and both ends have one secret
-  pub kept-back : length seed ≡ p .seed → length msg ≡ p .secret → Below 256 msg → kept p seed msg salt ≡ true
+  pub kept-back : Valid p → length seed ≡ p .seed → length msg ≡ p .secret → Below 256 msg → kept p seed msg salt ≡ true
       → (recoveredMessage p seed msg salt ≡ msg) × (recoveredSecret p seed msg salt ≡ sharedSecret p (publicKey p seed) msg salt)
-  kept-back enough len bytes e =
+  kept-back valid enough len bytes e =
       let d = demand3 p valid seed msg salt enough len bytes in
       let back = d .message .1 (kept-in-range e) in
       (back, d .secret back)
