@@ -3,3 +3,5 @@ pub mod Tables
 pub mod Loops
 pub mod Spans
 pub mod Parts
+pub mod Arrays
+pub mod Pairs

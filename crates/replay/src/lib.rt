@@ -1,0 +1,102 @@
+// What the replay programs share: lists of answers as text, one a line, fields between single spaces, bytes as hex digits, '-' for no bytes.
+// A list that is malformed leads to answers that do not agree, and never out of bounds.
+ghost use Prim.Native.Nat.{_+_, _≤_, _<_};
+ghost use lib.ListN.{length};
+
+// A part of a text.
+pub struct Span {
+    pub start: usize,
+    pub end: usize,
+}
+
+// The place of the first b at `from` or later, or the length where there is none.
+pub fn find(s: &[u8], from: usize, b: u8) -> usize
+    requires { ⌜ from ≤ length (now s) ⌝ }
+    ensures { λ r. ⌜ (from ≤ r) × (r ≤ length (now (s .entry))) ⌝ }
+{
+    let mut i = from;
+    while i < s.len() {
+        if s[i] == b {
+            return i;
+        }
+        i += 1;
+    }
+    i
+}
+
+// Where the field after the one at `start` begins, or the length where there is none.
+fn next(line: &[u8], start: usize) -> usize
+    requires { ⌜ start ≤ length (now line) ⌝ }
+    ensures { λ r. ⌜ r ≤ length (now (line .entry)) ⌝ }
+{
+    let end = find(line, start, b' ');
+    if end < line.len() { end + 1 } else { end }
+}
+
+// Field k of a line, or an empty one where there are fewer.
+pub fn field(line: &[u8], k: usize) -> Span
+    ensures { λ r. ⌜ (r .start ≤ r .end) × (r .end ≤ length (now (line .entry))) ⌝ }
+{
+    let mut start = 0;
+    for _ in 0..k {
+        start = next(line, start);
+    }
+    Span {
+        start,
+        end: find(line, start, b' '),
+    }
+}
+
+// The value of a hex digit, 0 for any other byte.
+fn digit(b: u8) -> u8
+    ensures { λ r. ⌜ r < 16 ⌝ }
+{
+    match b {
+        b'0'..=b'9' => b - b'0',
+        b'a'..=b'f' => b - b'a' + 10,
+        _ => 0,
+    }
+}
+
+fn byte(high: u8, low: u8) -> u8 {
+    digit(high) * 16 + digit(low)
+}
+
+fn least(a: usize, b: usize) -> usize
+    ensures { λ r. ⌜ (r ≤ a) × (r ≤ b) ⌝ }
+{
+    if a < b { a } else { b }
+}
+
+// The bytes of hex digits, as many as there are and as out holds. Answers how many.
+pub fn unhex(text: &[u8], out: &mut [u8]) -> usize
+    ensures { λ r. ⌜ r ≤ length (now (out .exit)) ⌝ }
+{
+    let n = least(out.len(), text.len() / 2);
+    for i in 0..n {
+        out[i] = byte(text[2 * i], text[2 * i + 1]);
+    }
+    n
+}
+
+// The number of at most three decimal digits, 0 for anything else.
+pub fn decimal(text: &[u8]) -> usize
+    ensures { λ r. ⌜ r < 1666 ⌝ }
+{
+    match text.len() {
+        1 => digit(text[0]) as usize,
+        2 => digit(text[0]) as usize * 10 + digit(text[1]) as usize,
+        3 => digit(text[0]) as usize * 100 + digit(text[1]) as usize * 10 + digit(text[2]) as usize,
+        _ => 0,
+    }
+}
+
+// Prints a name, a count of agreeing answers and the count of all.
+pub fn report(name: &[u8], right: usize, all: usize) {
+    io::write_all(1, name);
+    io::write_all(1, b": ");
+    io::print_decimal(1, right as u64);
+    io::write_all(1, b" of ");
+    io::print_decimal(1, all as u64);
+    io::write_all(1, b" agree\n");
+}

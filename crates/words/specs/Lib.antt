@@ -1,0 +1,2 @@
+-- Words and their masks.
+pub mod Words
