@@ -7,7 +7,7 @@ use native.Mathlib.Nat.{mod-lt, div-add-mod', div-eq-of-lt-le, le-div-iff-mul-le
 use native.Mathlib.Decide.{decLt}
 use native.Mathlib.Omega.{arith}
 use lib.Dec.{ltb→lt, lt→ltb, leb→le, le→leb}
-use lib.IntN.{ℤ, pos, negsuc, subℕ, negℤ, _+ℤ_, +ℤ-comm}
+use lib.IntN.{ℤ, pos, negsuc, subℕ, negℤ, natAbs, _+ℤ_, +ℤ-comm}
 use lib.Signed.{_≤ℤ_, _<ℤ_}
 use borrow.Author.Tests.{lt-ltb, le-ltb}
 use Rattle.algebra.specs.Congruence.{Same, minus}
@@ -33,6 +33,14 @@ sub-eq a b c d e = go (side a b)
     go : (a < b) ⊎ (b ≤ a) → subℕ a b ≡ subℕ c d
     go (inl h) = rw (below a b h, below c d (omega arith)) (ap negsuc (omega arith))
     go (inr h) = rw (at-least a b h, at-least c d (omega arith)) (ap pos (omega arith))
+
+-- how far a - b is from 0
+pub size-sub : (a b : ℕ) → natAbs (subℕ a b) ≡ (a - b) + (b - a)
+size-sub a b = go (side a b)
+  where
+    go : (a < b) ⊎ (b ≤ a) → natAbs (subℕ a b) ≡ (a - b) + (b - a)
+    go (inl h) = rw (below a b h) (omega arith)
+    go (inr h) = rw (at-least a b h) (omega arith)
 
 pub sub-plus : (a b h : ℕ) → subℕ a b +ℤ pos h ≡ subℕ (a + h) b
 sub-plus a b h = go (side a b)

@@ -8,19 +8,16 @@ use lib.ListN.{length, length-append}
 use lib.Seq.{take-at}
 use Rattle.lists.specs.Lists.{residues, Below}
 use Rattle.lists.proofs.Spans.{part-at, rest-at}
-use Rattle.algebra.specs.Congruence.{minus}
-use Rattle.algebra.specs.Matrix.{mat, matT, _⊕_, mul}
 use Rattle.algebra.proofs.Tables.{length-table}
 use Rattle.sets.specs.Sets.{Valid}
 use Rattle.sets.specs.declared.Params.{Params}
 use Rattle.codec.specs.Pack.{packed, unpacked}
 use Rattle.codec.proofs.RoundTrip.{length-packed}
-use Rattle.message.specs.Message.{groupOf, encoded, decoded}
+use Rattle.message.specs.Message.{groupOf, decoded}
 use Rattle.message.proofs.RoundTrip.{below-message, length-decoded}
-use Rattle.rows.specs.Row.{matA}
 use Rattle.scheme.specs.Parts.{pkhOf}
-use Rattle.scheme.specs.Encaps.{pkSeedA, pkB, encSeedSE, encK, encNoise, encS, encE, encE2, encB, encC, ciphertext, sharedSecret}
-use Rattle.scheme.specs.Decaps.{skMatrixS, ctC1, ctC2, ctSalt, ctB, ctC, opened, decapsMessage, decapsK, decapsSecret}
+use Rattle.scheme.specs.Encaps.{encSeedSE, encK, encNoise, encB, encC, ciphertext, sharedSecret}
+use Rattle.scheme.specs.Decaps.{ctC1, ctC2, ctSalt, ctB, ctC, opened, decapsMessage, decapsK, decapsSecret}
 use Rattle.scheme.proofs.Parts.{coding, length-hash, length-noise, packed-back}
 
 module _ (p : Params) (valid : Valid p) where
@@ -33,17 +30,15 @@ module _ (p : Params) (valid : Valid p) where
 
   pub length-encB : (pk pkh msg salt : List ℕ) → length (encB p pk pkh msg salt) ≡ 8 * p .n
   unfolding encB
-  length-encB pk pkh msg salt = length-table 8 (p .n) (mul (p .n) (mat (p .n) (encS p pkh msg salt)) (matA p (pkSeedA pk)) ⊕ mat (p .n) (encE p pkh msg salt))
+  length-encB pk pkh msg salt = length-table 8 (p .n) _
 
   pub length-encC : (pk pkh msg salt : List ℕ) → length (encC p pk pkh msg salt) ≡ 8 * 8
   unfolding encC
-  length-encC pk pkh msg salt =
-      length-table 8 8 (mul (p .n) (mat (p .n) (encS p pkh msg salt)) (mat 8 (pkB p pk)) ⊕ mat 8 (encE2 p pkh msg salt) ⊕ mat 8 (encoded (p .q) (p .b) msg))
+  length-encC pk pkh msg salt = length-table 8 8 _
 
   pub length-opened : (sk ct : List ℕ) → length (opened p sk ct) ≡ 8 * 8
   unfolding opened
-  length-opened sk ct =
-      length-table 8 8 (λ i j. minus (p .q) (mat 8 (ctC p ct) i j) (mul (p .n) (mat (p .n) (ctB p ct)) (matT (p .n) (skMatrixS p sk)) i j))
+  length-opened sk ct = length-table 8 8 _
 
   -- ---- the ciphertext: c1, c2 and the salt
 

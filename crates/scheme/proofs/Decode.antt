@@ -23,12 +23,14 @@ abbrev pub drifted : (q h g m e : ℕ) → ℕ
 drifted q h g m e = modulo (pos m +ℤ floorDiv (centred q e +ℤ pos h) (2 * h)) g
 
 module _ (q h g c : ℕ) (hh : 0 < h) (hc : 0 < c) (hg : g ≡ 2 * c) (hq : q ≡ g * (2 * h)) where
+  -- there are steps and groups
   step : 0 < 2 * h
   step = omega arith
 
   some : 0 < g
   some = omega arith
 
+  -- half a turn is c steps
   half-q : q / 2 ≡ c * (2 * h)
   half-q = let e = ap (λ (x : ℕ). x * (2 * h)) hg in omega arith
 
@@ -81,6 +83,7 @@ module _ (q h g c : ℕ) (hh : 0 < h) (hc : 0 < c) (hg : g ≡ 2 * c) (hq : q �
       same-trans (rounded-same (same-trans (same-mod q (e + q / 2)) (same-eq q {b = c * (2 * h) + e} (omega (arith, half-q)))))
       (same-eq g (rounded-steps c e))
 
+  -- and at most g
   rounded-le : (e : ℕ) → rounded (turned e) ≤ g
   unfolding rounded turned
   rounded-le e =
@@ -88,6 +91,7 @@ module _ (q h g c : ℕ) (hh : 0 < h) (hc : 0 < c) (hg : g ≡ 2 * c) (hq : q �
       let l : ((e + q / 2) % q + h) / (2 * h) < suc g = div-lt-iff-lt-mul step .1 (omega arith) in
       omega arith
 
+  -- the drift, without signs
   drifted-is : (m e : ℕ) → drifted q h g m e ≡ minus g (m + rounded (turned e)) c
   unfolding rounded turned
   drifted-is m e =

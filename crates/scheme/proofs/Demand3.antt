@@ -1,27 +1,26 @@
 -- The third demand (specs/Demand3.antt), proved once over every valid set: that the message comes back exactly where the noise is in range follows from request
 -- Thirteen's law of groups. Then for every set number, through `chosen`.
 -- Assumes nothing.
-use mathlib.Core.Path.{_≡_, refl, sym, ap, _∙_, subst}
+use mathlib.Core.Path.{_≡_, sym, ap, _∙_, subst}
 use mathlib.Core.Logic.{_↔_}
-use mathlib.Core.Bool.{Bool, true, _&&_, cond}
+use mathlib.Core.Bool.{true}
 use mathlib.Core.List.{List, _++_}
 use Prim.Native.Nat.{ℕ, _+_, _*_, _/_, _%_, _^_, _<_}
-use native.Mathlib.Nat.{div-add-mod', mul-comm}
+use native.Mathlib.Nat.{div-add-mod'}
 use native.Mathlib.Omega.{arith}
 use lib.ListN.{length, getD}
 use lib.Seq.{ext-getD}
-use Rattle.lists.specs.Lists.{residues, Below, equal}
+use Rattle.lists.specs.Lists.{residues, Below}
 use Rattle.lists.proofs.Tables.{equal-refl}
-use Rattle.sets.specs.Sets.{Valid, chosen, paramsOf}
+use Rattle.sets.specs.Sets.{Valid}
 use Rattle.sets.specs.declared.Params.{Params}
-use Rattle.sets.specs.declared.Chosen.the-variants.{Known}
 use Rattle.sets.proofs.Facts.{valid, picked}
 use Rattle.message.specs.Message.{half, groupsOf, messageOf}
 use Rattle.message.proofs.RoundTrip.{below-groups, length-groups, message-groups}
 use Rattle.scheme.specs.Parts.{hash, pkhOf}
 use Rattle.scheme.specs.KeyGen.{publicKey, secretKey}
 use Rattle.scheme.specs.Encaps.{encK, encB, encC, sharedSecret}
-use Rattle.scheme.specs.Decaps.{skPk, skPkh, ctSalt, ctB, ctC, agrees, decapsK, decapsMessage, decapsSecret}
+use Rattle.scheme.specs.Decaps.{agrees, decapsK, decapsSecret}
 use Rattle.scheme.specs.Noise.{InRange, centredAt, AllInRange, noiseAt}
 use Rattle.scheme.specs.Demand3.{sealed, recoveredMessage, recoveredSecret, Demand3, ThirdDemand}
 use Rattle.scheme.proofs.Decode.{drifted, group-kept}
@@ -47,7 +46,7 @@ module _ (p : Params) (ok : Valid p) (seed msg salt : List ℕ) where
         let r = group-kept (coding p ok) (sent i j) (noiseAt p seed msg salt i j) (below-groups (p .b) msg (i * 8 + j)) in
         (λ e. r .0 (sym (law i j hi hj) ∙ e), λ e. law i j hi hj ∙ r .1 e)
 
-    -- all groups come back exactly where the message does
+    -- so the message comes back exactly where every entry is
     pub message-back : length msg ≡ p .secret → Below 256 msg → (recoveredMessage p seed msg salt ≡ msg) ↔ AllInRange p seed msg salt
     message-back len bytes = (there, here)
       where
@@ -77,7 +76,7 @@ module _ (p : Params) (ok : Valid p) (seed msg salt : List ℕ) where
 
   module _ (enough : length seed ≡ p .seed) where
     -- encapsulation redone with the message gives the ciphertext's own matrices
-    agrees-here : agrees p (secretKey p seed) (sealed p seed msg salt) msg ≡ true
+    pub agrees-here : agrees p (secretKey p seed) (sealed p seed msg salt) msg ≡ true
     unfolding agrees
     agrees-here =
         let pk = publicKey p seed in

@@ -2,7 +2,7 @@
 -- Assumes nothing.
 use mathlib.Core.Path.{_≡_, sym, ap, _∙_}
 use mathlib.Core.List.{List, _∷_, _++_}
-use Prim.Native.Nat.{ℕ, _+_, _*_, _≤_}
+use Prim.Native.Nat.{ℕ, _+_, _*_}
 use native.Mathlib.Omega.{arith}
 use lib.ListN.{length, take, drop, length-append}
 use lib.Seq.{take-at, drop-at, drop-drop, length-take-le}
@@ -10,15 +10,13 @@ use Rattle.lists.specs.Lists.{residues}
 use Rattle.lists.proofs.Spans.{part-at, rest-at}
 use Rattle.bits.specs.Little.{wordsOf, bytesOf}
 use Rattle.bits.proofs.Little.{length-bytes, words-bytes}
-use Rattle.algebra.specs.Matrix.{mat, matT, _⊕_, mul}
 use Rattle.algebra.proofs.Tables.{length-table}
 use Rattle.sets.specs.Sets.{Valid}
 use Rattle.sets.specs.declared.Params.{Params}
 use Rattle.codec.specs.Pack.{packed, unpacked}
 use Rattle.codec.proofs.RoundTrip.{length-packed}
-use Rattle.rows.specs.Row.{matA}
 use Rattle.scheme.specs.Parts.{pkhOf}
-use Rattle.scheme.specs.KeyGen.{seedS, seedSE, seedZ, keySeedA, keyNoise, keyS, keyE, keyB, publicKey, secretKey}
+use Rattle.scheme.specs.KeyGen.{seedS, seedSE, seedZ, keySeedA, keyNoise, keyS, keyB, publicKey, secretKey}
 use Rattle.scheme.specs.Encaps.{pkSeedA, pkB}
 use Rattle.scheme.specs.Decaps.{skRandomS, skPk, skMatrixS, skPkh}
 use Rattle.scheme.proofs.Parts.{length-hash, length-noise, packed-back}
@@ -44,7 +42,7 @@ module _ (p : Params) (valid : Valid p) (seed : List ℕ) where
 
   pub length-keyB : length (keyB p seed) ≡ 8 * p .n
   unfolding keyB
-  length-keyB = length-table (p .n) 8 (mul (p .n) (matA p (keySeedA p seed)) (matT (p .n) (keyS p seed)) ⊕ mat 8 (keyE p seed)) ∙ omega arith
+  length-keyB = length-table (p .n) 8 _ ∙ omega arith
 
   -- the public key has its length
   pub length-publicKey : length (publicKey p seed) ≡ p .pk

@@ -1,6 +1,6 @@
 -- What decapsulation decodes: the encoded message and the noise S'E + E'' - E'S, over any matrices.
 -- Assumes nothing.
-use mathlib.Core.Path.{_≡_, ap, _∙_}
+use mathlib.Core.Path.{ap, _∙_}
 use Prim.Native.Nat.{ℕ, _+_, _<_}
 use native.Mathlib.Omega.{arith}
 use Rattle.algebra.specs.Congruence.{Same, minus}

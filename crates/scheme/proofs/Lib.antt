@@ -6,3 +6,6 @@ pub mod Keys
 pub mod Ciphertexts
 pub mod Groups
 pub mod Demand3
+pub mod Margin
+pub mod Consequences
+pub mod Accepted

@@ -1,9 +1,9 @@
 -- What a valid set gives to all that follows: lengths of hashes and of noise, and words that were packed and unpacked.
 -- Assumes nothing.
-use mathlib.Core.Path.{_≡_, ap, _∙_}
+use mathlib.Core.Path.{_≡_, _∙_}
 use mathlib.Core.Logic.{_⊎_, inl, inr}
 use mathlib.Core.List.{List}
-use Prim.Native.Nat.{ℕ, _*_, _^_, _≤_, _<_}
+use Prim.Native.Nat.{ℕ, _*_, _≤_, _<_}
 use native.Mathlib.Omega.{arith}
 use lib.ListN.{length, length-map}
 use lib.Pow.{pow-pos}
@@ -36,7 +36,10 @@ module _ (p : Params) (valid : Valid p) where
     b-high = valid .b-high;
   }
 
-  -- q is not 0
+  -- neither the bits of q nor q are 0
+  pub d-pos : 0 < p .d
+  d-pos = either (λ x. 0 < x) (valid .d-cases) (omega arith) (omega arith)
+
   pub q-pos : 0 < p .q
   q-pos = rw (valid .q-is) (pow-pos (p .d))
 
@@ -52,4 +55,4 @@ module _ (p : Params) (valid : Valid p) where
 
   -- words that were packed come back mod q
   pub packed-back : (c : ℕ) (ws : List ℕ) → length ws ≡ 8 * c → unpacked (p .d) (packed (p .d) ws) ≡ residues (p .q) ws
-  packed-back c ws e = rw (valid .q-is) (unpack-pack (p .d) c (either (λ x. 0 < x) (valid .d-cases) (omega arith) (omega arith)) ws e)
+  packed-back c ws e = rw (valid .q-is) (unpack-pack (p .d) c d-pos ws e)

@@ -22,7 +22,12 @@ noiseOf q n S E S' E' E'' i j = minus q ((mul n S' E ⊕ E'') i j) (mul n E' S i
 unfoldable pub noiseAt : (p : Params) (seed msg salt : List ℕ) → Matrix
 noiseAt p seed msg salt =
     let pkh = pkhOf p (publicKey p seed) in
-    noiseOf (p .q) (p .n) (matT (p .n) (keyS p seed)) (mat 8 (keyE p seed)) (mat (p .n) (encS p pkh msg salt)) (mat (p .n) (encE p pkh msg salt)) (mat 8 (encE2 p pkh msg salt))
+    noiseOf (p .q) (p .n)
+    (matT (p .n) (keyS p seed))
+    (mat 8 (keyE p seed))
+    (mat (p .n) (encS p pkh msg salt))
+    (mat (p .n) (encE p pkh msg salt))
+    (mat 8 (encE2 p pkh msg salt))
 
 -- an entry of it, centred: at least -q/2 and less than q/2
 abbrev pub centredAt : (p : Params) (seed msg salt : List ℕ) (i j : ℕ) → ℤ
