@@ -2,3 +2,4 @@
 pub mod Stream
 pub mod Digits
 pub mod Little
+pub mod Xor
