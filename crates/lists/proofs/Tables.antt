@@ -47,6 +47,12 @@ tab-add (suc n) m g =
     ∙ ap (λ (l : List ℕ). g 0 ∷ l)
     (tab-add n m (λ k. g (suc k)) ∙ ap (λ (l : List ℕ). tab n (λ k. g (suc k)) ++ l) (tab-cong m (λ k. g (suc (n + k))) (λ k. g (suc n + k)) (λ k _. ap g (sym (suc-add n k)))))
 
+-- its first k values
+pub take-tab : (k n : ℕ) (g : ℕ → ℕ) → k ≤ n → take k (tab n g) ≡ tab k g
+take-tab zero n g l = refl
+take-tab (suc k) zero g l = absurd (not-suc-le-zero l)
+take-tab (suc k) (suc n) g l = ap (λ (s : List ℕ). g 0 ∷ s) (take-tab k n (λ j. g (suc j)) (le-of-suc-le-suc l))
+
 -- a function of each value of a table
 pub map-of-tab : (f : ℕ → ℕ) (n : ℕ) (g : ℕ → ℕ) → map f (tab n g) ≡ tab n (λ k. f (g k))
 map-of-tab f zero g = refl
