@@ -25,6 +25,32 @@ pub fn find(s: &[u8], from: usize, b: u8) -> usize
     i
 }
 
+// Where the line after the one from `at` to `end` begins.
+pub fn past(text: &[u8], at: usize, end: usize) -> usize
+    requires { ⌜ (at < length (now text)) × (at ≤ end) × (end ≤ length (now text)) ⌝ }
+    ensures { λ r. ⌜ (at < r) × (r ≤ length (now (text .entry))) ⌝ }
+{
+    if end < text.len() { end + 1 } else { end }
+}
+
+// A line that says nothing to a program: empty, or beginning with '#'.
+pub fn comment(line: &[u8]) -> bool {
+    if line.len() == 0 {
+        return true;
+    }
+    line[0] == b'#'
+}
+
+// The file of that name, as much of it as out holds. Answers how many bytes.
+pub fn read(path: &[u8], out: &mut [u8]) -> usize
+    ensures { λ r. ⌜ r ≤ length (now (out .exit)) ⌝ }
+{
+    let fd = os::open_read(path);
+    let n = io::read_full(fd, out);
+    libc::close(fd);
+    n
+}
+
 // Where the field after the one at `start` begins, or the length where there is none.
 fn next(line: &[u8], start: usize) -> usize
     requires { ⌜ start ≤ length (now line) ⌝ }

@@ -1,3 +1,5 @@
+-- `replay::field` stays within its slices and ends: the loop's measure is what is left.
+-- Assumes nothing.
 use native.Mathlib.Omega.{arith}
 use Rattle.replay.proofs.field.Statement.{statement}
 use Rattle.replay.proofs.field.Tie as tie

@@ -1,3 +1,5 @@
+-- `replay::find` stays within its slices and ends: the loop's measure is what is left.
+-- Assumes nothing.
 use native.Mathlib.Omega.{arith}
 use Rattle.replay.proofs.find.Statement.{statement}
 use Rattle.replay.proofs.find.Tie as tie

@@ -1,3 +1,5 @@
+-- `replay::unhex` stays within its slices and ends: the loop's measure is what is left.
+-- Assumes nothing.
 use borrow.Author.Needs.{needs}
 use native.Mathlib.Omega.{arith}
 use Rattle.replay.proofs.unhex.Statement.{statement}
