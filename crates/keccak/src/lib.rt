@@ -1,7 +1,9 @@
 // FIPS 202, section 3: KECCAK-p[1600, 24]. The state is 25 lanes by value, lane (x, y) at x + 5 y; the steps have the names of section 3.2.
 ghost use mathlib.Core.Path.{_≡_};
 ghost use Prim.Native.Nat.{_<_};
-ghost use Rattle.keccak.specs.Keccak.{rotl, columns, theta, rho, pi, chi, iotaWith, keccakF};
+ghost use mathlib.Core.List.{[], _∷_};
+ghost use Rattle.lists.specs.Lists.{tab};
+ghost use Rattle.keccak.specs.Keccak.{rotl, columns, theta, rho, pi, mixed, chi, iotaWith, keccakF};
 
 // The lane x rotated left by k.
 pub fn rotl(x: u64, k: u64) -> u64
@@ -126,35 +128,53 @@ pub fn pi(a: [u64; 25]) -> [u64; 25]
     ]
 }
 
+// A row of chi: each lane takes the two that follow it around the row.
+fn chi_row(a: u64, b: u64, c: u64, d: u64, e: u64) -> [u64; 5]
+    ensures { λ r. ⌜ r ≡ tab 5 (λ x. mixed (a ∷ b ∷ c ∷ d ∷ e ∷ []) x 0) ⌝ }
+{
+    [
+        a ^ (!b & c),
+        b ^ (!c & d),
+        c ^ (!d & e),
+        d ^ (!e & a),
+        e ^ (!a & b),
+    ]
+}
+
 pub fn chi(a: [u64; 25]) -> [u64; 25]
     ensures { λ r. ⌜ r ≡ chi a ⌝ }
 {
+    let p = chi_row(a[0], a[1], a[2], a[3], a[4]);
+    let q = chi_row(a[5], a[6], a[7], a[8], a[9]);
+    let r = chi_row(a[10], a[11], a[12], a[13], a[14]);
+    let s = chi_row(a[15], a[16], a[17], a[18], a[19]);
+    let t = chi_row(a[20], a[21], a[22], a[23], a[24]);
     [
-        a[0] ^ (!a[1] & a[2]),
-        a[1] ^ (!a[2] & a[3]),
-        a[2] ^ (!a[3] & a[4]),
-        a[3] ^ (!a[4] & a[0]),
-        a[4] ^ (!a[0] & a[1]),
-        a[5] ^ (!a[6] & a[7]),
-        a[6] ^ (!a[7] & a[8]),
-        a[7] ^ (!a[8] & a[9]),
-        a[8] ^ (!a[9] & a[5]),
-        a[9] ^ (!a[5] & a[6]),
-        a[10] ^ (!a[11] & a[12]),
-        a[11] ^ (!a[12] & a[13]),
-        a[12] ^ (!a[13] & a[14]),
-        a[13] ^ (!a[14] & a[10]),
-        a[14] ^ (!a[10] & a[11]),
-        a[15] ^ (!a[16] & a[17]),
-        a[16] ^ (!a[17] & a[18]),
-        a[17] ^ (!a[18] & a[19]),
-        a[18] ^ (!a[19] & a[15]),
-        a[19] ^ (!a[15] & a[16]),
-        a[20] ^ (!a[21] & a[22]),
-        a[21] ^ (!a[22] & a[23]),
-        a[22] ^ (!a[23] & a[24]),
-        a[23] ^ (!a[24] & a[20]),
-        a[24] ^ (!a[20] & a[21]),
+        p[0],
+        p[1],
+        p[2],
+        p[3],
+        p[4],
+        q[0],
+        q[1],
+        q[2],
+        q[3],
+        q[4],
+        r[0],
+        r[1],
+        r[2],
+        r[3],
+        r[4],
+        s[0],
+        s[1],
+        s[2],
+        s[3],
+        s[4],
+        t[0],
+        t[1],
+        t[2],
+        t[3],
+        t[4],
     ]
 }
 

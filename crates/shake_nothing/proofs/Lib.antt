@@ -1,0 +1,2 @@
+-- An answer from outside.
+pub mod Nothing
