@@ -1,4 +1,4 @@
 -- The laws of packing.
 pub mod RoundTrip
-pub mod Straight
+pub mod Sixteen
 pub mod Widths

@@ -13,6 +13,10 @@ use Rattle.lists.specs.Lists.{tab, residues, Below}
 pub cons : {x y : ℕ} {xs ys : List ℕ} → x ≡ y → xs ≡ ys → x ∷ xs ≡ y ∷ ys
 cons p q = ap₂ (λ (a : ℕ) (l : List ℕ). a ∷ l) p q
 
+-- two numbers that are each a third
+pub meet : {x y z : ℕ} → y ≡ z → x ≡ z → x ≡ y
+meet p q = q ∙ sym p
+
 -- ---- a list by its elements
 
 -- a table of n values has n elements
@@ -68,6 +72,10 @@ list-tab (x ∷ s) = ap (λ (l : List ℕ). x ∷ l) (list-tab s)
 -- the same for a list whose length is known under another name
 pub known : (n : ℕ) (s : List ℕ) → length s ≡ n → tab n (λ k. getD s k 0) ≡ s
 known n s q = subst (λ (k : ℕ). tab k (λ j. getD s j 0) ≡ s) q (list-tab s)
+
+-- a function of a list's elements, written out, is that of the list
+pub written-out : (F : List ℕ → List ℕ) (n : ℕ) (s : List ℕ) {r : List ℕ} → length s ≡ n → r ≡ F (tab n (λ k. getD s k 0)) → r ≡ F s
+written-out F n s q e = e ∙ ap F (known n s q)
 
 -- a list with these elements is the table
 pub is-tab : (n : ℕ) (g : ℕ → ℕ) (s : List ℕ) → length s ≡ n → ((k : ℕ) → k < n → getD s k 0 ≡ g k) → s ≡ tab n g

@@ -21,9 +21,10 @@ joins : Joins (packed 15) 8 15
 joins = packs 15 8 15 refl
 
 loop-again : tie.Need-loop-again Inv-loop μ-loop
+unfolding packed
 loop-again c =
     let l = c .before .before .before .before .before .before .before .before .loop in
-    let written = c .before .before .copy-bytes .ensures ∙ c .before .before .before .before .before .pack-part .ensures in
+    let written = c .before .before .copy-bytes .ensures ∙ c .before .before .before .before .before .pack-eight .ensures in
     (omega arith, l .inv .1, turn joins (l .inv .2) (omega arith) (omega arith) written)
 
 pub pack15-spec : {M : Type 1} → statement M
@@ -46,7 +47,7 @@ pack15-spec =
     (λ c. omega arith)
     (λ c. omega arith)
     (λ c. omega arith)
-    (λ c κs. let h : length (c .before .before .pack-part .result) ≡ 15 = search needs in simp (length-take, length-drop) (omega arith))
+    (λ c κs. let h : length (c .before .before .pack-eight .result) ≡ 15 = search needs in simp (length-take, length-drop) (omega arith))
     (λ c. omega arith)
     (λ c. omega arith)
     loop-again

@@ -9,7 +9,7 @@ use Rattle.lists.proofs.Parts.{Joins, Parts, parts-none, turned}
 use Rattle.lists.proofs.Pairs.{turn-pair}
 use Rattle.codec.specs.Pack.{packed}
 use Rattle.codec.proofs.RoundTrip.{packs}
-use Rattle.codec.proofs.Straight.{pack-one}
+use Rattle.codec.proofs.Sixteen.{pack-one}
 use Rattle.codec.proofs.pack16.Statement.{statement}
 use Rattle.codec.proofs.pack16.Tie as tie
 

@@ -22,9 +22,10 @@ joins : Joins (unpacked 15) 15 8
 joins = unpacks 15 15 8 (lit< tt) refl
 
 loop-again : tie.Need-loop-again Inv-loop μ-loop
+unfolding unpacked
 loop-again c =
     let l = c .before .before .before .before .before .before .before .before .loop in
-    let written = c .before .before .copy-words .ensures ∙ c .before .before .before .before .before .unpack-part .ensures in
+    let written = c .before .before .copy-words .ensures ∙ c .before .before .before .before .before .unpack-fifteen .ensures in
     (omega arith, l .inv .1, turn joins (l .inv .2) (omega arith) (omega arith) written)
 
 pub unpack15-spec : {M : Type 1} → statement M
@@ -47,7 +48,7 @@ unpack15-spec =
     (λ c. omega arith)
     (λ c. omega arith)
     (λ c. omega arith)
-    (λ c κs. let h : length (c .before .before .unpack-part .result) ≡ 8 = search needs in simp (length-take, length-drop) (omega arith))
+    (λ c κs. let h : length (c .before .before .unpack-fifteen .result) ≡ 8 = search needs in simp (length-take, length-drop) (omega arith))
     (λ c. omega arith)
     (λ c. omega arith)
     loop-again

@@ -10,7 +10,7 @@ use Rattle.lists.proofs.Parts.{Joins, Parts, parts-none, turned}
 use Rattle.lists.proofs.Pairs.{turn-single}
 use Rattle.codec.specs.Pack.{unpacked}
 use Rattle.codec.proofs.RoundTrip.{unpacks}
-use Rattle.codec.proofs.Straight.{unpack-two}
+use Rattle.codec.proofs.Sixteen.{unpack-two}
 use Rattle.codec.proofs.unpack16.Statement.{statement}
 use Rattle.codec.proofs.unpack16.Tie as tie
 

@@ -1,9 +1,9 @@
--- `codec::eight` meets its contract: each formula is a byte of the document's bit string.
+-- `codec15::eight` meets its contract: each formula is a byte of the document's bit string.
 -- Assumes nothing.
 use borrow.Author.Needs.{needs}
-use Rattle.codec.proofs.Straight.{pack-eight}
-use Rattle.codec.proofs.eight.Statement.{statement}
-use Rattle.codec.proofs.eight.Tie as tie
+use Rattle.codec15.proofs.Straight.{pack-eight}
+use Rattle.codec15.proofs.eight.Statement.{statement}
+use Rattle.codec15.proofs.eight.Tie as tie
 
 pub eight-spec : {M : Type 1} → statement M
 eight-spec =

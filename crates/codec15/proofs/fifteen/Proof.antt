@@ -1,10 +1,10 @@
--- `codec::fifteen` meets its contract: each formula is a word of the document's bit string.
+-- `codec15::fifteen` meets its contract: each formula is a word of the document's bit string.
 -- Assumes nothing.
 use borrow.Author.Needs.{needs}
 use native.Mathlib.Omega.{arith}
-use Rattle.codec.proofs.Straight.{unpack-fifteen}
-use Rattle.codec.proofs.fifteen.Statement.{statement}
-use Rattle.codec.proofs.fifteen.Tie as tie
+use Rattle.codec15.proofs.Straight.{unpack-fifteen}
+use Rattle.codec15.proofs.fifteen.Statement.{statement}
+use Rattle.codec15.proofs.fifteen.Tie as tie
 
 returns : tie.Need-returns
 returns c =
