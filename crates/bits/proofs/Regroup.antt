@@ -1,4 +1,4 @@
--- Words of a bits as words of b bits, by their stream of bits (specs/Stream.antt): both packing and unpacking are such a change of width.
+-- The laws of words of a bits as words of b bits (`regrouped` of specs/Stream.antt): both packing and unpacking are such a change of width.
 -- Assumes nothing.
 use mathlib.Core.Path.{_≡_, refl, sym, ap, _∙_}
 use mathlib.Core.List.{List, [], _∷_, _++_}
@@ -8,14 +8,10 @@ use native.Mathlib.Omega.{arith}
 use lib.ListN.{length, length-append, length-map}
 use Rattle.lists.specs.Lists.{residues, Below}
 use Rattle.lists.proofs.Parts.{Joins}
-use Rattle.bits.specs.Stream.{stream, groups}
+use Rattle.bits.specs.Stream.{stream, groups, regrouped}
 use Rattle.bits.proofs.Stream.{stream-are, length-stream, length-groups, groups-stream, stream-groups, stream-append, groups-append, stream-residues, below-groups}
 
--- words of a bits as words of b bits
-abbrev pub regrouped : (a b : ℕ) → List ℕ → List ℕ
-regrouped a b xs = groups b (length xs * a / b) (stream a xs)
-
--- they are below 2^b
+-- words of b bits are below 2^b
 pub below-regrouped : (a b : ℕ) (xs : List ℕ) → Below (2 ^ b) (regrouped a b xs)
 below-regrouped a b xs = below-groups b (length xs * a / b) (stream a xs) (stream-are a xs)
 

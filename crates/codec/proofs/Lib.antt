@@ -1,2 +1,4 @@
 -- The laws of packing.
 pub mod RoundTrip
+pub mod Sixteen
+pub mod Widths

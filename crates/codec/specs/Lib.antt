@@ -1,2 +1,3 @@
 -- Packing of words.
 pub mod Pack
+pub mod Packing

@@ -101,11 +101,11 @@ pub fn mask_words(s: &mut [u16], mask: u16)
     }
 }
 
-// The word of two bytes, the lower first.
-fn word(first: u8, second: u8) -> u16
-    ensures { λ r. ⌜ r ≡ first + 256 * second ⌝ }
+// The word of two bytes.
+pub fn word(lower: u8, higher: u8) -> u16
+    ensures { λ r. ⌜ r ≡ lower + 256 * higher ⌝ }
 {
-    first as u16 + 256 * (second as u16)
+    lower as u16 + 256 * (higher as u16)
 }
 
 // The little-endian words of bytes.
@@ -119,14 +119,14 @@ pub fn words_of(bytes: &[u8], out: &mut [u16])
 }
 
 // A word's lower byte.
-fn low_byte(x: u16) -> u8
+pub fn low_byte(x: u16) -> u8
     ensures { λ r. ⌜ r ≡ x % 256 ⌝ }
 {
     (x % 256) as u8
 }
 
 // A word's higher byte.
-fn high_byte(x: u16) -> u8
+pub fn high_byte(x: u16) -> u8
     ensures { λ r. ⌜ r ≡ x / 256 ⌝ }
 {
     (x / 256) as u8

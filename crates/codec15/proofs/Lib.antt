@@ -1,0 +1,2 @@
+-- The laws of the straight-line formulas.
+pub mod Straight
