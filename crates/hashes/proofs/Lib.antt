@@ -1,0 +1,2 @@
+-- The laws that the hashes share.
+pub mod Laws
