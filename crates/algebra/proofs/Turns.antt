@@ -1,4 +1,4 @@
--- A product as a loop makes it: term by term, where `mul k` is the first k terms of the sums; and row by row, a part of the slice a turn.
+-- A product as a loop makes it: term by term, where `mul k` is the first k terms of the sums; and row by row, a part of the slice a turn; and what a loop makes entry by entry.
 -- Assumes nothing.
 use mathlib.Core.Path.{_≡_, refl, sym, ap, ap₂, _∙_, subst}
 use mathlib.Core.List.{List}
@@ -12,7 +12,7 @@ use borrow.Rule.Slice.PartMut.{putMid}
 use Rattle.lists.specs.Lists.{tab, residues, Below}
 use Rattle.lists.proofs.Tables.{tab-cong, map-of-tab, known}
 use Rattle.lists.proofs.Loops.{Upto, none, moved, all}
-use Rattle.lists.proofs.Spans.{upto-part, upto-held, Begun, begun-none, begun-kept, begun-more}
+use Rattle.lists.proofs.Spans.{length-part, upto-part, upto-held, Begun, begun-none, begun-kept, begun-more}
 use Rattle.algebra.specs.Sum.{sum}
 use Rattle.algebra.specs.Matrix.{Matrix, mat, mul, _⊕_, table}
 use Rattle.algebra.proofs.Sums.{sum-start, sum-next, sum-ext}
@@ -65,8 +65,16 @@ pub flat : (m cols : ℕ) (f : Matrix) → ℕ → ℕ
 flat m cols f t = f (t / cols) (t % cols) % m
 
 -- row i of a matrix, lent as a part
-pub row-part : (cols i : ℕ) (l : List ℕ) (j : ℕ) → j < cols → getD (take (i * cols + cols - i * cols) (drop (i * cols) l)) j 0 ≡ mat cols l i j
-row-part cols i l j h =
+abbrev pub part : (cols i : ℕ) (l : List ℕ) → List ℕ
+part cols i l = take (i * cols + cols - i * cols) (drop (i * cols) l)
+
+-- its length
+pub part-length : (cols i : ℕ) (l : List ℕ) → i * cols + cols ≤ length l → length (part cols i l) ≡ cols
+part-length cols i l h = length-part (i * cols) cols l h
+
+-- its words
+pub part-at : (cols i : ℕ) (l : List ℕ) (j : ℕ) → j < cols → getD (part cols i l) j 0 ≡ mat cols l i j
+part-at cols i l j h =
     getD-take (i * cols + cols - i * cols) (drop (i * cols) l) j 0 (omega (arith, add-sub-cancel-left (i * cols) cols)) ∙ getD-drop (i * cols) l j 0
 
 module _ (m cols i : ℕ) (f : Matrix) where
@@ -103,7 +111,7 @@ rows-more {m} {cols} {i} {f} {d} {e} {ys} r h q = record {
 
 -- what the next row holds before it is written
 pub rows-held : {m cols i : ℕ} {f : Matrix} {d e : List ℕ} → Rows m cols f i d e → (j : ℕ) → j < cols
-    → getD (take (i * cols + cols - i * cols) (drop (i * cols) e)) j 0 ≡ mat cols d i j
+    → getD (part cols i e) j 0 ≡ mat cols d i j
 rows-held {m} {cols} {i} r j h = upto-held (r .upto) (i * cols + cols - i * cols) j (omega (arith, add-sub-cancel-left (i * cols) cols))
 
 -- all are written
@@ -137,3 +145,12 @@ pub top-all : {m cols i : ℕ} {f : Matrix} {e : List ℕ} (rows : ℕ) → Top 
 top-all {m} {cols} {i} {f} {e} rows t q =
     subst (λ (z : ℕ). take (z * cols) e ≡ tab (z * cols) (flat m cols f)) q (t .begun .is)
     ∙ whole m rows cols f refl
+
+-- ---- entry by entry
+
+-- each entry is h of two entries in its place
+pub entries : (rows cols : ℕ) (h : ℕ → ℕ → ℕ) (x y : List ℕ) {t : ℕ} {d e : List ℕ} → Upto (λ k. h (getD x k 0) (getD y k 0)) t d e → t ≡ rows * cols → length d ≡ rows * cols
+    → e ≡ table rows cols (λ i j. h (mat cols x i j) (mat cols y i j))
+entries rows cols h x y u q l =
+    all u (q ∙ sym l)
+    ∙ is-table rows cols (λ i j. h (mat cols x i j) (mat cols y i j)) (λ k. h (getD x k 0) (getD y k 0)) l (λ k _. ap₂ h (place x cols k) (place y cols k))

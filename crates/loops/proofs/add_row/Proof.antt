@@ -4,13 +4,12 @@ use native.Mathlib.Omega.{arith}
 use mathlib.Core.Path.{_≡_, ap, _∙_}
 use mathlib.Core.List.{List, map}
 use Prim.Native.Nat.{ℕ, _+_, _*_, _-_, _%_, _≤_, _<_}
-use lib.ListN.{length, getD, take, drop}
+use lib.ListN.{length, getD}
 use Rattle.lists.specs.Lists.{tab, residues}
 use Rattle.lists.proofs.Tables.{tab-cong}
-use Rattle.lists.proofs.Spans.{length-part}
 use Rattle.algebra.specs.Matrix.{Matrix, mat, _⊕_}
 use Rattle.algebra.proofs.Products.{within}
-use Rattle.algebra.proofs.Turns.{Rows, rows-none, rows-more, rows-held, rows-all}
+use Rattle.algebra.proofs.Turns.{Rows, rows-none, rows-more, rows-held, rows-all, part, part-length}
 use Rattle.loops.proofs.add_row.Statement.{statement}
 use Rattle.loops.proofs.add_row.Tie as tie
 
@@ -20,12 +19,12 @@ added n out s row k = mat n out ⊕ (λ i j. mat n s i k * getD row j 0)
 
 -- what `add_times` makes of row i, from what it held
 grown : {n i : ℕ} (s row : List ℕ) (k : ℕ) {d e ys : List ℕ} → Rows 65536 n (added n d s row k) i d e → length row ≡ n
-    → ys ≡ residues 65536 (tab (length row) (λ j. getD (take (i * n + n - i * n) (drop (i * n) e)) j 0 + getD s (i * n + k) 0 * getD row j 0))
+    → ys ≡ residues 65536 (tab (length row) (λ j. getD (part n i e) j 0 + getD s (i * n + k) 0 * getD row j 0))
     → ys ≡ residues 65536 (tab n (added n d s row k i))
 grown {n} {i} s row k {d} {e} r q h =
     h
-    ∙ ap (λ (z : ℕ). residues 65536 (tab z (λ j. getD (take (i * n + n - i * n) (drop (i * n) e)) j 0 + getD s (i * n + k) 0 * getD row j 0))) q
-    ∙ ap (residues 65536) (tab-cong n (λ j. getD (take (i * n + n - i * n) (drop (i * n) e)) j 0 + getD s (i * n + k) 0 * getD row j 0) (added n d s row k i)
+    ∙ ap (λ (z : ℕ). residues 65536 (tab z (λ j. getD (part n i e) j 0 + getD s (i * n + k) 0 * getD row j 0))) q
+    ∙ ap (residues 65536) (tab-cong n (λ j. getD (part n i e) j 0 + getD s (i * n + k) 0 * getD row j 0) (added n d s row k i)
     (λ j l. ap (λ (z : ℕ). z + getD s (i * n + k) 0 * getD row j 0) (rows-held r j l)))
 
 abbrev Inv-loop : tie.InvT-loop
@@ -41,7 +40,7 @@ fits c = (within (c .before .loop .i) 8 (c .before .before .before .before .befo
 add-times-requires : tie.Need-add-times-requires Inv-loop μ-loop
 add-times-requires c κs = let l = c .before .before in
     let n = l .before .before .before .before .before .args .n in
-    length-part (l .before .loop .i * n) n (l .before .loop .out) (omega (arith, fits l)) ∙ omega arith
+    part-length n (l .before .loop .i) (l .before .loop .out) (omega (arith, fits l)) ∙ omega arith
 
 loop-again : tie.Need-loop-again Inv-loop μ-loop
 loop-again c = let l = c .before .before .before .before .before in
