@@ -3,3 +3,4 @@ pub mod Stream
 pub mod Regroup
 pub mod Digits
 pub mod Little
+pub mod Xor

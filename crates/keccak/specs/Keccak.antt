@@ -14,6 +14,9 @@ rotl x k = (x * 2 ^ k) % 2 ^ 64 + x / 2 ^ (64 - k)
 abbrev pub column : List ℕ → ℕ → ℕ
 column a x = bitXor (bitXor (bitXor (bitXor (getD a x 0) (getD a (x + 5) 0)) (getD a (x + 10) 0)) (getD a (x + 15) 0)) (getD a (x + 20) 0)
 
+abbrev pub columns : List ℕ → List ℕ
+columns a = tab 5 (column a)
+
 abbrev pub effect : List ℕ → ℕ → ℕ
 effect a x = bitXor (column a ((x + 4) % 5)) (rotl (column a ((x + 1) % 5)) 1)
 
@@ -59,8 +62,12 @@ constantTo i (suc j) = constantTo i j + (register (j + 7 * i) % 2) * 2 ^ (2 ^ j 
 unfoldable pub roundConstant : ℕ → ℕ
 roundConstant i = constantTo i 7
 
+-- lane (0, 0) takes the constant c
+unfoldable pub iotaWith : ℕ → List ℕ → List ℕ
+iotaWith c a = set a 0 (bitXor (getD a 0 0) c)
+
 unfoldable pub iota : ℕ → List ℕ → List ℕ
-iota i a = set a 0 (bitXor (getD a 0 0) (roundConstant i))
+iota i a = iotaWith (roundConstant i) a
 
 -- 3.3: a round, and the 24 of them
 unfoldable pub round : ℕ → List ℕ → List ℕ

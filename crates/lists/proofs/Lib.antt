@@ -4,3 +4,4 @@ pub mod Loops
 pub mod Spans
 pub mod Parts
 pub mod Pairs
+pub mod Arrays

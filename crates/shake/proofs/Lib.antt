@@ -1,2 +1,9 @@
--- The laws of SHAKE that callers cite.
+-- The laws of the sponge. Callers cite Uses and Length; the others prove that the sponge is FIPS 202's.
 pub mod Length
+pub mod Turn
+pub mod Lanes
+pub mod Absorb
+pub mod Padding
+pub mod Squeeze
+pub mod Words
+pub mod Uses

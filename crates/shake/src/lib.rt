@@ -1,1 +1,134 @@
-// SHAKE128 and SHAKE256.
+// FIPS 202, sections 4 and 6.2: SHAKE as a sponge over Keccak, at any rate of up to 200 bytes (SHAKE128 has 168, SHAKE256 has 136).
+// A sponge goes by value: new, absorb as often as there are parts, finish, squeeze as often as bytes are asked for.
+ghost use mathlib.Core.Path.{_≡_};
+ghost use Prim.Native.Nat.{_+_, _*_, _/_, _%_, _^_, _≤_, _<_};
+ghost use lib.ListN.{length};
+ghost use Rattle.bits.specs.Little.{wordsOf};
+ghost use Rattle.shake.specs.Shake.{shake};
+ghost use Rattle.shake.specs.Sponge.{addByte, empty, absorbBytes, finished, squeezed, after, Ready, Squeezing, Even};
+
+// `at` is the place of the next byte in a block of `rate` bytes.
+pub struct Sponge {
+    pub lanes: [u64; 25],
+    pub at: usize,
+    pub rate: usize,
+}
+
+// The lane x with the byte b added at place k of the state.
+fn add_byte(x: u64, k: usize, b: u8) -> u64
+    ensures { λ r. ⌜ r ≡ addByte x k b ⌝ }
+{
+    x ^ (b as u64) << (8 * (k % 8)) as u64
+}
+
+// The byte at place k of the state, in the lane x.
+fn byte_at(x: u64, k: usize) -> u8
+    ensures { λ r. ⌜ r ≡ x / 2 ^ (8 * (k % 8)) % 256 ⌝ }
+{
+    ((x >> (8 * (k % 8)) as u64) % 256) as u8
+}
+
+// The two bytes from place k on.
+fn word_at(x: u64, k: usize) -> u16
+    ensures { λ r. ⌜ r ≡ x / 2 ^ (8 * (k % 8)) % 65536 ⌝ }
+{
+    ((x >> (8 * (k % 8)) as u64) % 65536) as u16
+}
+
+impl Sponge {
+    pub fn new(rate: usize) -> Self
+        ensures { λ r. ⌜ r ≡ empty rate ⌝ }
+    {
+        Self {
+            lanes: [0u64; 25],
+            at: 0,
+            rate,
+        }
+    }
+
+    pub fn absorb(self, bytes: &[u8]) -> Self
+        requires { ⌜ Ready self ⌝ }
+        ensures { λ r. ⌜ r ≡ absorbBytes self (now (bytes .entry)) ⌝ }
+    {
+        let mut lanes = self.lanes;
+        let mut at = self.at;
+        let rate = self.rate;
+        for i in 0..bytes.len() {
+            let k = at / 8;
+            lanes[k] = add_byte(lanes[k], at, bytes[i]);
+            at += 1;
+            if at == rate {
+                keccak::permute(&mut lanes);
+                at = 0;
+            }
+        }
+        Self { lanes, at, rate }
+    }
+
+    // The padding: after it bytes are squeezed.
+    pub fn finish(self) -> Self
+        requires { ⌜ Ready self ⌝ }
+        ensures { λ r. ⌜ r ≡ finished self ⌝ }
+    {
+        let mut lanes = self.lanes;
+        let at = self.at;
+        let rate = self.rate;
+        let k = at / 8;
+        lanes[k] = add_byte(lanes[k], at, 0x1f);
+        let last = rate - 1;
+        let j = last / 8;
+        lanes[j] = add_byte(lanes[j], last, 0x80);
+        keccak::permute(&mut lanes);
+        Self { lanes, at: 0, rate }
+    }
+
+    pub fn squeeze(self, out: &mut [u8]) -> Self
+        requires { ⌜ Squeezing self ⌝ }
+        ensures { λ r. ⌜ (now (out .exit) ≡ squeezed self (length (now (out .entry)))) × (r ≡ after self (length (now (out .entry)))) ⌝ }
+    {
+        let mut lanes = self.lanes;
+        let mut at = self.at;
+        let rate = self.rate;
+        for i in 0..out.len() {
+            if at == rate {
+                keccak::permute(&mut lanes);
+                at = 0;
+            }
+            let k = at / 8;
+            out[i] = byte_at(lanes[k], at);
+            at += 1;
+        }
+        Self { lanes, at, rate }
+    }
+
+    // As squeeze, in words of two bytes, the lower first.
+    pub fn squeeze_words(self, out: &mut [u16]) -> Self
+        requires { ⌜ Squeezing self × Even self ⌝ }
+        ensures { λ r. ⌜ (now (out .exit) ≡ wordsOf (squeezed self (2 * length (now (out .entry))))) × (r ≡ after self (2 * length (now (out .entry)))) ⌝ }
+    {
+        let mut lanes = self.lanes;
+        let mut at = self.at;
+        let rate = self.rate;
+        for i in 0..out.len() {
+            if at == rate {
+                keccak::permute(&mut lanes);
+                at = 0;
+            }
+            let k = at / 8;
+            out[i] = word_at(lanes[k], at);
+            at += 2;
+        }
+        Self { lanes, at, rate }
+    }
+}
+
+// SHAKE at a rate of that many bytes: `out` is filled with the first bytes for `input`.
+pub fn shake(rate: usize, input: &[u8], out: &mut [u8])
+    requires { ⌜ (0 < rate) × (rate ≤ 200) ⌝ }
+    ensures { λ _. ⌜ now (out .exit) ≡ shake rate (now (input .entry)) (length (now (out .entry))) ⌝ }
+{
+    let p = Sponge::new(rate);
+    let p = p.absorb(input);
+    let p = p.finish();
+    p.squeeze(out);
+}

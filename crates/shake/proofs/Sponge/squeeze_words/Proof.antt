@@ -1,0 +1,53 @@
+-- `squeeze_words` gives word after word: the invariants are `GaveWords`, and `Upto` for the slice.
+-- Assumes nothing.
+use mathlib.Core.Path.{_≡_, sym, _∙_}
+use mathlib.Core.Logic.{⊎-elim}
+use Prim.Native.Nat.{_-_, _≤_}
+use native.Mathlib.Omega.{arith}
+use borrow.Author.Needs.{needs}
+use lib.ListN.{length}
+use Rattle.lists.proofs.Loops.{Upto, none, more, all}
+use Rattle.shake.specs.Sponge.{made, turned}
+use Rattle.shake.proofs.Turn.{met-end, met-on}
+use Rattle.shake.proofs.Squeeze.{gave-all}
+use Rattle.shake.proofs.Words.{word, words-are, GaveWords, words-none, words-ready, words-more, words-first}
+use Rattle.shake.proofs.Sponge.squeeze_words.Statement.{statement}
+use Rattle.shake.proofs.Sponge.squeeze_words.Tie as tie
+
+abbrev Inv-loop : tie.InvT-loop
+Inv-loop out₀ lanes₀ at₀ rate i₀ i-end out lanes at i =
+    (i ≤ i-end) × (i-end ≡ length out₀) × GaveWords (made lanes₀ at₀ rate) i (made lanes at rate) × Upto (word (made lanes₀ at₀ rate)) i out₀ out
+
+abbrev μ-loop : tie.MeasureT-loop
+μ-loop out₀ lanes₀ at₀ rate i₀ i-end out lanes at i = i-end - i
+
+-- where the ways of the `if` meet there are two bytes to give
+met : (c : tie.Joined1 Inv-loop μ-loop)
+    → made (c .if1 .lanes) (c .if1 .at) (c .before .before .before .before .before .args .self .rate)
+    ≡ turned (made (c .before .before .loop .lanes) (c .before .before .loop .at) (c .before .before .before .before .before .args .self .rate))
+met c = ⊎-elim (λ w. met-end _ (w .0 .taken) (w .3 ∙ w .2 .ensures) (w .4)) (λ w. met-on _ (w .0 .left) (w .1) (w .2)) (c .if1 .came)
+
+loop-again : tie.Need-loop-again Inv-loop μ-loop
+loop-again c =
+    let inv = c .before .before .before .before .loop .inv in
+    let turn = met (c .before .before) in (
+      omega arith,
+      omega arith,
+      words-more (inv .2) turn 1 (omega arith) (words-ready (inv .2) turn .0),
+      more (inv .3) (omega arith) (c .word-at .ensures ∙ sym (words-first (inv .2) turn)),
+    )
+
+returns : tie.Need-returns Inv-loop μ-loop
+returns c =
+    let inv = c .before .loop .inv in
+    (all (inv .3) (omega arith) ∙ words-are _ _, gave-all _ (inv .2 .gave) (omega arith))
+
+pub squeeze-words-spec : {M : Type 1} → statement M
+squeeze-words-spec = tie.close (tie.spec Inv-loop μ-loop
+    (λ c. (omega arith, omega arith, words-none _ (c .before .before .pre .0) (c .before .before .pre .1), none _ _))
+    (λ c κs. search needs)
+    (λ c. omega (arith, words-ready (c .before .before .before .loop .inv .2) (met (c .before))))
+    (λ c. omega (arith, words-ready (c .before .before .before .loop .inv .2) (met (c .before))))
+    (λ c κs. search needs) (λ c. omega arith) (λ c. omega arith)
+    (λ c. omega (arith, words-ready (c .before .before .before .before .loop .inv .2) (met (c .before .before))))
+    (λ c. omega arith) (λ c. omega arith) loop-again (λ c. c .before .loop .inv .3 .len) returns)
