@@ -3,4 +3,5 @@ pub mod Sums
 pub mod Congruences
 pub mod Products
 pub mod Tables
+pub mod Turns
 pub mod Wholes

@@ -1,0 +1,2 @@
+-- What the loops of the crate share.
+pub mod Eights

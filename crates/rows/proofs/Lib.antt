@@ -1,0 +1,2 @@
+-- The laws of rows, and of the mask of a set.
+pub mod Rows
