@@ -2,4 +2,5 @@
 pub mod Stream
 pub mod Regroup
 pub mod Digits
+pub mod FromTop
 pub mod Little
