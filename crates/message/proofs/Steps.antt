@@ -53,19 +53,19 @@ module _ {q b : ℕ} (k : Coding q b) where
   masked x = subst (λ (z : ℕ). bitAnd x (z - 1) ≡ x % z) (sym (k .q-is)) (and-mask x (k .d))
 
   -- steps in 2^16
-  times-is : 65536 / (2 * half q b) ≡ 2 ^ (16 - (k .d - b))
-  times-is = ap (λ (z : ℕ). 65536 / z) (twice ∙ step-is) ∙ power-div (k .d - b) 16 (omega (arith, k .d-high))
+  times-is : 65536 / (q / 2 ^ b) ≡ 2 ^ (16 - (k .d - b))
+  times-is = ap (λ (z : ℕ). 65536 / z) step-is ∙ power-div (k .d - b) 16 (omega (arith, k .d-high))
 
   -- there are not too many
-  pub times-high : 65536 / (2 * half q b) ≤ 32768
+  pub times-high : 65536 / (q / 2 ^ b) ≤ 32768
   times-high = subst (λ (z : ℕ). z ≤ 32768) (sym times-is) (pow-mono {j = 15} (omega (arith, k .b-room)))
 
   -- a quotient by a step is the quotient of a multiple by 2^16
-  pub quotient : (v : ℕ) → v * (65536 / (2 * half q b)) / 65536 ≡ v / (2 * half q b)
+  pub quotient : (v : ℕ) → v * (65536 / (q / 2 ^ b)) / 65536 ≡ v / (2 * half q b)
   quotient v =
       let s : ℕ = k .d - b in
       let m : ℕ = 16 - s in
-      let e : m + s ≡ 16 = omega (arith, k .d-high) in
-      (λ i. v * times-is i / 2 ^ sym e i)
+      let e : 16 ≡ m + s = omega (arith, k .d-high) in
+      (λ i. v * times-is i / 2 ^ e i)
       ∙ ap (λ (z : ℕ). v * 2 ^ m / z) (pow-add 2 m s) ∙ sym (div-div-eq-div-mul (v * 2 ^ m) (2 ^ m) (2 ^ s))
       ∙ ap (λ (z : ℕ). z / 2 ^ s) (shl-shr v m) ∙ ap (λ (z : ℕ). v / z) (sym (twice ∙ step-is))

@@ -88,14 +88,15 @@ fn half_step(q: u32, b: usize) -> u32
     q >> (b + 1)
 }
 
-// The group of a word. A quotient by 2h is the quotient of a multiple of it by 2^16.
+// The group of a word. A quotient by 2h, which is q/2^b, is the quotient of a multiple by 2^16.
 fn group_of(q: u32, b: usize, x: u16) -> u32
     requires { ⌜ Coding q b ⌝ }
     ensures { λ r. ⌜ (r ≡ groupOf q b x) × (r < 2 ^ b) ⌝ }
 {
+    let last = q - 1;
+    let times = 65536 / (q >> b);
     let h = half_step(q, b);
-    let times = 65536 / (2 * h);
-    low_bits((((x as u32) & (q - 1)) + h) * times / 65536, b)
+    low_bits((((x as u32) & last) + h) * times / 65536, b)
 }
 
 // The number of eight words' groups, the lowest first.
