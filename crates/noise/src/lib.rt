@@ -51,9 +51,11 @@ fn with_sign(odd: u16, size: u16) -> u16
     requires { ⌜ odd < 2 ⌝ }
     ensures { λ r. ⌜ r ≡ signed odd size ⌝ }
 {
-    let sign = odd as u32;
-    let plain = size as u32;
-    ((sign * (65536 - plain) + (1 - sign) * plain) % 65536) as u16
+    let odd = odd as u32;
+    let even = 1 - odd;
+    let plus = size as u32;
+    let minus = 65536 - plus;
+    ((odd * minus + even * plus) % 65536) as u16
 }
 
 // The noise of one word.
@@ -62,8 +64,10 @@ fn sample_word(table: &[u16], r: u16) -> u16
     ensures { λ x. ⌜ x ≡ sampled (now (table .entry)) r ⌝ }
 {
     let t = r / 2;
+    let n = table.len();
+    let counted = n - 1;
     let mut size: u16 = 0;
-    for i in 0..table.len() - 1 {
+    for i in 0..counted {
         size += below(table[i], t);
     }
     with_sign(r % 2, size)

@@ -10,10 +10,10 @@ use Rattle.noise.proofs.sample_word.Statement.{statement}
 use Rattle.noise.proofs.sample_word.Tie as tie
 
 abbrev Inv-loop : tie.InvT-loop
-Inv-loop table r t size₀ i₀ i-end size i = (i ≤ i-end) × (i-end ≡ length table - 1) × (size ≤ i) × (size ≡ countBelow t (take i table))
+Inv-loop table r t n counted size₀ i₀ size i = (i ≤ counted) × (counted ≡ length table - 1) × (size ≤ i) × (size ≡ countBelow t (take i table))
 
 abbrev μ-loop : tie.MeasureT-loop
-μ-loop table r t size₀ i₀ i-end size i = i-end - i
+μ-loop table r t n counted size₀ i₀ size i = counted - i
 
 loop-holds : tie.Need-loop-holds Inv-loop μ-loop
 unfolding countBelow

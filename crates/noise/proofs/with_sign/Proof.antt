@@ -12,8 +12,8 @@ with-sign-spec =
     tie.close
     (tie.spec
     (λ c. search needs)
-    (λ c. omega (arith, factor-le (c .args .odd) (65536 - c .args .size) (c .pre)))
     (λ c. search needs)
+    (λ c. omega (arith, factor-le (c .args .odd) (65536 - c .args .size) (c .pre)))
     (λ c. omega (arith, factor-le (1 - c .args .odd) (c .args .size) (omega arith)))
     (λ c. omega (arith, factor-le (c .args .odd) (65536 - c .args .size) (c .pre), factor-le (1 - c .args .odd) (c .args .size) (omega arith)))
     (λ c. search needs)

@@ -1,0 +1,2 @@
+-- The document's own numbers.
+pub mod Edges
