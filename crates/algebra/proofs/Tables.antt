@@ -5,10 +5,10 @@ use mathlib.Core.List.{List, map}
 use Prim.Native.Nat.{ℕ, zero, suc, _+_, _*_, _/_, _%_, _≤_, _<_}
 use native.Mathlib.Nat.{div-add-mod', div-lt-iff-lt-mul, mod-lt, mod-mod, zero-mod, mul-zero}
 use native.Mathlib.Omega.{arith}
-use lib.ListN.{length, getD}
+use lib.ListN.{length, getD, length-map}
 use lib.Arith.{digits-lt, digits-div, digits-mod}
-use Rattle.lists.specs.Lists.{tab, residues}
-use Rattle.lists.proofs.Tables.{length-tab, getD-tab, tab-cong, map-of-tab, getD-map0}
+use Rattle.lists.specs.Lists.{tab, residues, Below}
+use Rattle.lists.proofs.Tables.{length-tab, getD-tab, tab-cong, map-of-tab, getD-map0, below-tab}
 use Rattle.algebra.specs.Congruence.{Same}
 use Rattle.algebra.specs.Matrix.{Matrix, mat, table}
 
@@ -73,6 +73,15 @@ words-cong m rows cols f g h =
     map-table (λ w. w % m) rows cols f ∙ table-cong rows cols (λ i j. f i j % m) (λ i j. g i j % m) h ∙ sym (map-table (λ w. w % m) rows cols g)
 
 -- the entry at row i and column j, kept mod m
-pub getD-words : (m rows cols : ℕ) (f : Matrix) (i j : ℕ) → i < rows → j < cols → getD (residues m (table rows cols f)) (i * cols + j) 0 ≡ f i j % m
-getD-words m rows cols f i j hi hj =
+pub getD-kept : (m rows cols : ℕ) (f : Matrix) (i j : ℕ) → i < rows → j < cols → getD (residues m (table rows cols f)) (i * cols + j) 0 ≡ f i j % m
+getD-kept m rows cols f i j hi hj =
     getD-map0 (λ w. w % m) (table rows cols f) (i * cols + j) (zero-mod m) ∙ ap (λ (x : ℕ). x % m) (getD-table rows cols f i j hi hj)
+
+-- how many there are
+pub length-kept : (m rows cols : ℕ) (f : Matrix) → length (residues m (table rows cols f)) ≡ rows * cols
+length-kept m rows cols f = length-map (table rows cols f) (λ w. w % m) ∙ length-table rows cols f
+
+-- a table of entries below b
+pub below-table : {b : ℕ} (rows cols : ℕ) (f : Matrix) → 0 < b → ((i j : ℕ) → f i j < b) → Below b (table rows cols f)
+unfolding table
+below-table rows cols f p h = below-tab (rows * cols) (λ t. f (t / cols) (t % cols)) p (λ t. h (t / cols) (t % cols))

@@ -16,7 +16,7 @@ use Rattle.lists.proofs.Spans.{length-part, upto-part, upto-held, Begun, begun-
 use Rattle.algebra.specs.Sum.{sum}
 use Rattle.algebra.specs.Matrix.{Matrix, mat, mul, _⊕_, table}
 use Rattle.algebra.proofs.Sums.{sum-start, sum-next, sum-ext}
-use Rattle.algebra.proofs.Tables.{is-table, words-table, words-cong, getD-words, place}
+use Rattle.algebra.proofs.Tables.{is-table, words-table, words-cong, getD-kept, place}
 
 -- ---- term by term
 
@@ -39,7 +39,7 @@ module _ (m rows cols : ℕ) (X Y : Matrix) where
       (λ i j hi hj.
       let one : mul k X Y i j + E i j + X i k * Y k j ≡ mul (k + 1) X Y i j + E i j = omega (arith, sum-next k (λ u. X i u * Y u j)) in
       ap (λ (l : List ℕ). (getD l (i * cols + j) 0 + X i k * Y k j) % m) q
-      ∙ ap (λ (x : ℕ). (x + X i k * Y k j) % m) (getD-words m rows cols (mul k X Y ⊕ E) i j hi hj)
+      ∙ ap (λ (x : ℕ). (x + X i k * Y k j) % m) (getD-kept m rows cols (mul k X Y ⊕ E) i j hi hj)
       ∙ mod-add-mod (mul k X Y i j + E i j) m (X i k * Y k j)
       ∙ ap (λ (x : ℕ). x % m) one)
 

@@ -1,9 +1,8 @@
 -- Eight words of a product, mod 2^16 as the loops leave them, taken mod q.
 -- Assumes nothing.
-use mathlib.Core.Path.{_≡_, refl, sym, ap, _∙_}
+use mathlib.Core.Path.{_≡_, sym, ap, _∙_}
 use mathlib.Core.List.{List}
-use Prim.Native.Nat.{ℕ, zero, suc, _+_}
-use lib.ListN.{getD, replicate}
+use Prim.Native.Nat.{ℕ, _+_}
 use Rattle.lists.specs.Lists.{residues}
 use Rattle.algebra.proofs.Congruences.{words-mod}
 use Rattle.words.specs.Words.{Mask}
@@ -14,9 +13,3 @@ pub masked : {m : ℕ} → Mask m → (l : List ℕ) {v w : List ℕ} → v ≡ 
 masked {m} k l hv hw =
     hw ∙ ap (residues (m + 1)) hv
     ∙ ap (λ (q : ℕ). residues q (residues 65536 l)) (mask-q k) ∙ words-mod (k .bits) l (k .small) ∙ ap (λ (q : ℕ). residues q l) (sym (mask-q k))
-
--- a word of eight zeros
-pub zero-at : (n i : ℕ) → _≡_ {A = ℕ} (getD (replicate n 0) i 0) 0
-zero-at zero i = refl
-zero-at (suc n) zero = refl
-zero-at (suc n) (suc i) = zero-at n i

@@ -5,13 +5,13 @@ use mathlib.Core.Path.{_≡_, ap, _∙_}
 use mathlib.Core.List.{List}
 use Prim.Native.Nat.{ℕ, _+_, _*_, _-_, _%_, _≤_, _<_}
 use native.Mathlib.Nat.{add-zero}
-use lib.ListN.{length, replicate}
+use lib.ListN.{length, replicate, getD-replicate}
 use Rattle.lists.specs.Lists.{tab, residues}
 use Rattle.algebra.specs.Matrix.{Matrix, mat, matT, mul, _⊕_, table}
 use Rattle.algebra.proofs.Products.{within}
 use Rattle.algebra.proofs.Tables.{words-cong}
 use Rattle.algebra.proofs.Turns.{Rows, rows-none, rows-more, rows-all, row-of, part, part-length, part-at}
-use Rattle.products.proofs.Laws.{masked, zero-at}
+use Rattle.products.proofs.Laws.{masked}
 use Rattle.products.proofs.mul_bs.Statement.{statement}
 use Rattle.products.proofs.mul_bs.Tie as tie
 
@@ -49,7 +49,7 @@ loop-again c = let l = c .before .before .before .before .before .before .before
       rows-more (l .before .loop .inv .1) (omega arith) (c .before .before .store8 .ensures
           ∙ masked (l .before .before .mask .ensures .0) (tab 8 (result n (a .b .now) (a .s .now) i))
           (c .before .before .before .before .before .dots .ensures
-          ∙ ap (residues 65536) (row-of n 8 i (mat n (a .b .now)) (matT n (a .s .now)) (λ i j. 0) (part n i (a .b .now)) (replicate 8 0) (part-at n i (a .b .now)) (λ j _. zero-at 8 j)))
+          ∙ ap (residues 65536) (row-of n 8 i (mat n (a .b .now)) (matT n (a .s .now)) (λ i j. 0) (part n i (a .b .now)) (replicate 8 0) (part-at n i (a .b .now)) (λ j l. getD-replicate 8 j 0 0 l)))
           (c .before .before .before .before .low8 .ensures)),
     )
 
