@@ -1,7 +1,7 @@
 -- The laws of words of a bits as words of b bits (`regrouped` of specs/Stream.antt): both packing and unpacking are such a change of width.
 -- Assumes nothing.
-use mathlib.Core.Path.{_≡_, refl, sym, ap, _∙_}
-use mathlib.Core.List.{List, [], _∷_, _++_}
+use mathlib.Core.Path.{_≡_, sym, ap, _∙_}
+use mathlib.Core.List.{List, _++_}
 use Prim.Native.Nat.{ℕ, _+_, _*_, _/_, _%_, _^_, _<_}
 use native.Mathlib.Nat.{add-mul, mul-div-cancel, mul-add-div-right}
 use native.Mathlib.Omega.{arith}

@@ -1,6 +1,6 @@
 -- Packing and unpacking, over d: lengths, bounds, and the two round trips of document 01, module 3. Eight words of d bits are d bytes.
 -- Assumes nothing.
-use mathlib.Core.Path.{_≡_, sym, ap, _∙_, subst}
+use mathlib.Core.Path.{_≡_, _∙_, subst}
 use mathlib.Core.List.{List}
 use Prim.Native.Nat.{ℕ, _+_, _-_, _*_, _^_, _≤_, _<_}
 use native.Mathlib.Nat.{mul-comm, zero-add, sub-add-cancel}

@@ -1,6 +1,6 @@
 -- `codec::unpack16` meets its contract: after i turns the first i words are the unpacking of the first 2i bytes.
 -- Assumes nothing.
-use Prim.Native.Nat.{ℕ, _+_, _-_, _*_, _≤_}
+use Prim.Native.Nat.{_+_, _-_, _*_, _≤_}
 use native.Mathlib.Omega.{arith}
 use mathlib.Core.Path.{_≡_, refl, _∙_}
 use lib.Dec.{lit<}

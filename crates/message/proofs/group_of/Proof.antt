@@ -1,6 +1,5 @@
 -- `message::group_of` meets its contract: the masks, the multiple and the shift are document 01's floor((x mod q + h) / 2h) mod 2^b.
 -- Assumes nothing.
-use borrow.Author.Needs.{needs}
 use native.Mathlib.Omega.{arith}
 use Prim.Native.Nat.{ℕ, _+_, _-_, _*_, _/_, _%_, _^_, _≤_, _<_}
 use mathlib.Core.Path.{_≡_, sym, ap, _∙_, subst}

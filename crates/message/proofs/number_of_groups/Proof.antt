@@ -1,10 +1,10 @@
 -- `message::number_of_groups` meets its contract: after i turns t is the number of the last i groups.
 -- Assumes nothing.
-use Prim.Native.Nat.{ℕ, _-_, _+_, _*_, _^_, _≤_, _<_}
+use Prim.Native.Nat.{ℕ, _-_, _^_, _≤_, _<_}
 use native.Mathlib.Omega.{arith}
 use mathlib.Core.Path.{_≡_, sym, ap, _∙_, subst}
 use mathlib.Core.List.{map}
-use lib.ListN.{length, getD, length-map, List·getD-map}
+use lib.ListN.{length, length-map, List·getD-map}
 use lib.Pow.{pow-pos}
 use Rattle.bits.specs.Digits.{number}
 use Rattle.bits.proofs.FromTop.{Read, read-none, read-more, scaled-fits, more-fits, read-all}

@@ -1,6 +1,5 @@
 -- `message::word_of` meets its contract: a group's word is below q, and so a word.
 -- Assumes nothing.
-use borrow.Author.Needs.{needs}
 use native.Mathlib.Omega.{arith}
 use Prim.Native.Nat.{ℕ, _*_, _/_, _%_, _^_, _<_}
 use mathlib.Core.Path.{sym, ap, subst}
