@@ -42,6 +42,7 @@ pub pack-unpack : (d c : ℕ) → 0 < d → (bs : List ℕ) → length bs ≡ d 
 unfolding packed unpacked
 pack-unpack d c pos bs q h = regroup-back 8 d d 8 pos (mul-comm d 8) (lit< tt) c bs q ∙ residues-id 256 bs h
 
+-- bits above the d low ones of each word are not packed
 packed-residues : (d j : ℕ) (ws : List ℕ) → packed d (residues (2 ^ (j + d)) ws) ≡ packed d ws
 unfolding packed
 packed-residues d j ws = regrouped-residues d 8 j ws

@@ -11,6 +11,7 @@ use Rattle.sets.specs.declared.Chi.{Chi}
 use Rattle.sets.specs.declared.Chi.the-variants.{Frodo640, Frodo976, Frodo1344}
 use Rattle.noise.specs.Noise.{one, countBelow, signed, sampled, tableOf}
 
+-- a test counts at most once
 one-le : (b : Bool) → one b ≤ 1
 one-le true = omega arith
 one-le false = omega arith
@@ -21,6 +22,7 @@ unfolding countBelow
 count-le t [] = omega arith
 count-le t (x ∷ xs) = omega (arith, one-le (ltb x t), count-le t xs)
 
+-- a size with its sign is a word
 signed-lt : (odd size : ℕ) → size < 65536 → signed odd size < 65536
 unfolding signed
 signed-lt zero size h = h

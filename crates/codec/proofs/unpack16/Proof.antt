@@ -20,6 +20,7 @@ Inv-loop bytes out₀ i₀ i-end out i = (i ≤ i-end) × (i-end ≡ length out�
 abbrev μ-loop : tie.MeasureT-loop
 μ-loop bytes out₀ i₀ i-end out i = i-end - i
 
+-- two bytes are a word, part by part
 joins : Joins (unpacked 16) 2 1
 joins = unpacks 16 2 1 (lit< tt) refl
 

@@ -24,6 +24,7 @@ loop-holds c =
     let a = c .before .before .args in
     (omega arith, c .count .ensures, length-map (a .w .now) (groupOf (a .q) (a .b)) ∙ c .before .before .pre .1, read-none _ _)
 
+-- eight groups fit 32 bits
 fits : (c : tie.At-loop Inv-loop μ-loop) → c .before .count .result ^ length (map (groupOf (c .before .before .before .args .q) (c .before .before .before .args .b)) (c .before .before .before .args .w .now)) ≤ 4294967296
 fits c = groups-fit (c .before .before .before .args .b) (omega arith) (c .loop .inv .1) (c .loop .inv .2)
 

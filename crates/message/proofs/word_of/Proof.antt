@@ -11,6 +11,7 @@ use Rattle.message.proofs.RoundTrip.{word-lt}
 use Rattle.message.proofs.word_of.Statement.{statement}
 use Rattle.message.proofs.word_of.Tie as tie
 
+-- the product is a word
 small : (c : tie.After-low-bits) → c .low-bits .result * (c .before .args .q / 2 ^ c .before .args .b) < 65536
 unfolding wordOf
 small c =

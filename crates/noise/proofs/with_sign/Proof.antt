@@ -7,6 +7,7 @@ use Rattle.noise.proofs.Counts.{factor-le, either}
 use Rattle.noise.proofs.with_sign.Statement.{statement}
 use Rattle.noise.proofs.with_sign.Tie as tie
 
+-- either factor is 0 or 1
 small : (c : tie.Start) (a : ℕ) → (c .args .odd * a ≤ a) × ((1 - c .args .odd) * a ≤ a)
 small c a = (factor-le (c .args .odd) a (c .pre), factor-le (1 - c .args .odd) a (omega arith))
 
