@@ -1,6 +1,6 @@
 -- Packing and unpacking, over d: lengths, bounds, and the two round trips of document 01, module 3. Eight words of d bits are d bytes.
 -- Assumes nothing.
-use mathlib.Core.Path.{_≡_, sym, ap, _∙_, subst}
+use mathlib.Core.Path.{_≡_, _∙_, subst}
 use mathlib.Core.List.{List}
 use Prim.Native.Nat.{ℕ, _+_, _-_, _*_, _^_, _≤_, _<_}
 use native.Mathlib.Nat.{mul-comm, zero-add, sub-add-cancel}
@@ -42,6 +42,7 @@ pub pack-unpack : (d c : ℕ) → 0 < d → (bs : List ℕ) → length bs ≡ d 
 unfolding packed unpacked
 pack-unpack d c pos bs q h = regroup-back 8 d d 8 pos (mul-comm d 8) (lit< tt) c bs q ∙ residues-id 256 bs h
 
+-- bits above the d low ones of each word are not packed
 packed-residues : (d j : ℕ) (ws : List ℕ) → packed d (residues (2 ^ (j + d)) ws) ≡ packed d ws
 unfolding packed
 packed-residues d j ws = regrouped-residues d 8 j ws

@@ -1,7 +1,7 @@
 -- A word of 16 bits is two bytes, the higher first (document 01, module 3).
 -- Assumes nothing.
 use mathlib.Core.Path.{_≡_, refl}
-use mathlib.Core.List.{List, [], _∷_}
+use mathlib.Core.List.{[], _∷_}
 use Prim.Native.Nat.{ℕ, _+_, _*_, _/_, _%_, _<_}
 use native.Mathlib.Omega.{arith}
 use Rattle.lists.proofs.Tables.{cons, meet}

@@ -1,10 +1,15 @@
 -- The two widths at which words are packed.
 -- Assumes nothing.
-use mathlib.Core.Path.{_≡_, ap, _∙_, subst}
+use mathlib.Core.Path.{_≡_, sym, ap, _∙_, subst}
+use mathlib.Core.List.{List}
 use mathlib.Core.Logic.{_⊎_, inl, inr}
 use Prim.Native.Nat.{ℕ, _*_}
 use native.Mathlib.Omega.{arith}
 use Rattle.codec.specs.Packing.{Packing}
+
+-- what is left at one width is left at an equal one
+pub carried : (F : ℕ → List ℕ → List ℕ) (n : ℕ) (s : List ℕ) {d : ℕ} {e : List ℕ} → d ≡ n → e ≡ F n s → e ≡ F d s
+carried F n s q left = left ∙ ap (λ (k : ℕ). F k s) (sym q)
 
 module _ {d w b : ℕ} (k : Packing d w b) where
   -- at 15 bits

@@ -1,7 +1,7 @@
 -- The straight-line formulas are the bit string of document 01, module 3: eight words of 15 bits as bytes, and fifteen bytes as words.
 -- Assumes nothing.
 use mathlib.Core.Path.{_≡_, refl}
-use mathlib.Core.List.{List, [], _∷_}
+use mathlib.Core.List.{[], _∷_}
 use Prim.Native.Nat.{ℕ, _+_, _*_, _/_, _%_, _<_}
 use native.Mathlib.Omega.{arith}
 use Rattle.lists.proofs.Tables.{cons, meet}

@@ -78,6 +78,7 @@ groups-decoded q b pos k ws l =
     groups-message b pos k (map (groupOf q b) ws) (length-map ws (groupOf q b) ∙ l) (below-map (groupOf q b) ws (pow-pos b) (group-lt q b))
 
 module _ {q b : ℕ} (k : Coding q b) where
+  -- a step is not 0
   step-pos : 0 < q / 2 ^ b
   step-pos = omega (arith, twice k, half-pos k)
 
@@ -95,6 +96,7 @@ module _ {q b : ℕ} (k : Coding q b) where
       (λ i. (mod-eq-of-lt (word-lt m h) i + half q b) / twice k i % 2 ^ b)
       ∙ ap (λ (z : ℕ). z % 2 ^ b) (mul-add-div-right step-pos m (half q b) ∙ ap (λ (z : ℕ). m + z) (div-eq-of-lt small) ∙ add-zero m) ∙ mod-eq-of-lt h
 
+  -- the groups of groups' words
   groups-words : (gs : List ℕ) → Below (2 ^ b) gs → map (groupOf q b) (map (wordOf q b) gs) ≡ gs
   groups-words [] h = refl
   groups-words (m ∷ gs) h = cons (group-word m (h 0)) (groups-words gs (λ i. h (suc i)))

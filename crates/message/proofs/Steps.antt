@@ -15,9 +15,11 @@ power-div m d h =
     ap (λ (k : ℕ). 2 ^ k / 2 ^ m) (sym (add-sub-of-le h)) ∙ ap (λ (k : ℕ). k / 2 ^ m) (pow-add 2 m (d - m)) ∙ mul-div-cancel-left (2 ^ (d - m)) (pow-pos m)
 
 module _ {q b : ℕ} (k : Coding q b) where
+  -- a step is a power of two
   step-is : q / 2 ^ b ≡ 2 ^ (k .d - b)
   step-is = ap (λ (z : ℕ). z / 2 ^ b) (k .q-is) ∙ power-div b (k .d) (omega (arith, k .b-room))
 
+  -- and so is h
   half-is : half q b ≡ 2 ^ (k .d - (b + 1))
   half-is = ap (λ (z : ℕ). z / 2 ^ (b + 1)) (k .q-is) ∙ power-div (b + 1) (k .d) (omega (arith, k .b-room))
 

@@ -2,7 +2,7 @@
 -- Assumes nothing.
 use mathlib.Core.List.{List, [], _∷_}
 use mathlib.Core.Bool.{Bool, true, false}
-use Prim.Native.Nat.{ℕ, zero, suc, _+_, _-_, _/_, _%_, _≤_, _<_}
+use Prim.Native.Nat.{ℕ, zero, suc, _-_, _/_, _%_, _≤_, _<_}
 use native.Mathlib.Nat.{mod-lt}
 use native.Mathlib.Omega.{arith}
 use lib.Dec.{ltb, lit<}
@@ -11,6 +11,7 @@ use Rattle.sets.specs.declared.Chi.{Chi}
 use Rattle.sets.specs.declared.Chi.the-variants.{Frodo640, Frodo976, Frodo1344}
 use Rattle.noise.specs.Noise.{one, countBelow, signed, sampled, tableOf}
 
+-- a test counts at most once
 one-le : (b : Bool) → one b ≤ 1
 one-le true = omega arith
 one-le false = omega arith
@@ -21,6 +22,7 @@ unfolding countBelow
 count-le t [] = omega arith
 count-le t (x ∷ xs) = omega (arith, one-le (ltb x t), count-le t xs)
 
+-- a size with its sign is a word
 signed-lt : (odd size : ℕ) → size < 65536 → signed odd size < 65536
 unfolding signed
 signed-lt zero size h = h

@@ -32,6 +32,7 @@ either zero size h l = omega arith
 either (suc zero) size h l = omega arith
 either (suc (suc odd)) size h l = absurd (not-suc-le-zero (le-of-suc-le-suc (le-of-suc-le-suc h)))
 
+-- the counts of two tables in a row add up
 count-append : (t : ℕ) (xs ys : List ℕ) → countBelow t (xs ++ ys) ≡ countBelow t xs + countBelow t ys
 unfolding countBelow
 count-append t [] ys = omega arith

@@ -17,6 +17,7 @@ Inv-loop words out₀ n k₀ out k = (k ≤ n) × (8 * n ≡ length words) × Pa
 abbrev μ-loop : tie.MeasureT-loop
 μ-loop words out₀ n k₀ out k = n - k
 
+-- eight words are fifteen bytes, part by part
 joins : Joins (packed 15) 8 15
 joins = packs 15 8 15 refl
 

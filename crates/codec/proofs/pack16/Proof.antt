@@ -19,6 +19,7 @@ Inv-loop words out₀ i₀ i-end out i = (i ≤ i-end) × (i-end ≡ length word
 abbrev μ-loop : tie.MeasureT-loop
 μ-loop words out₀ i₀ i-end out i = i-end - i
 
+-- a word is two bytes, part by part
 joins : Joins (packed 16) 1 2
 joins = packs 16 1 2 refl
 

@@ -1,22 +1,18 @@
 -- `codec::unpack` meets its contract: each arm at its own width.
 -- Assumes nothing.
 use borrow.Author.Needs.{needs}
-use Prim.Native.Nat.{ℕ}
-use mathlib.Core.Path.{sym, ap, _∙_}
 use Rattle.codec.specs.Pack.{unpacked}
-use Rattle.codec.proofs.Widths.{at15, is16, at16}
+use Rattle.codec.proofs.Widths.{carried, at15, is16, at16}
 use Rattle.codec.proofs.unpack.Statement.{statement}
 use Rattle.codec.proofs.unpack.Tie as tie
 
 returns : tie.Need-returns
-returns c =
-    let start = c .before .before .before .before .before .before .before in
-    c .before .before .unpack15 .ensures ∙ ap (λ (d : ℕ). unpacked d (start .args .bytes .now)) (sym (c .before .before .before .before .if1 .taken))
+returns c = carried unpacked 15 (c .before .before .before .before .before .before .before .args .bytes .now) (c .before .before .before .before .if1 .taken) (c .before .before .unpack15 .ensures)
 
 returns-2 : tie.Need-returns-2
 returns-2 c =
     let start = c .before .before .before .before .before .before .before in
-    c .before .before .unpack16 .ensures ∙ ap (λ (d : ℕ). unpacked d (start .args .bytes .now)) (sym (is16 (start .pre) (c .before .before .before .before .if1 .left)))
+    carried unpacked 16 (start .args .bytes .now) (is16 (start .pre) (c .before .before .before .before .if1 .left)) (c .before .before .unpack16 .ensures)
 
 pub unpack-spec : {M : Type 1} → statement M
 unpack-spec =

@@ -18,6 +18,7 @@ Inv-loop bytes out₀ n k₀ out k = (k ≤ n) × (8 * n ≡ length out₀) × P
 abbrev μ-loop : tie.MeasureT-loop
 μ-loop bytes out₀ n k₀ out k = n - k
 
+-- fifteen bytes are eight words, part by part
 joins : Joins (unpacked 15) 15 8
 joins = unpacks 15 15 8 (lit< tt) refl
 

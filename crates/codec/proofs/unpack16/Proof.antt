@@ -1,6 +1,6 @@
 -- `codec::unpack16` meets its contract: after i turns the first i words are the unpacking of the first 2i bytes.
 -- Assumes nothing.
-use Prim.Native.Nat.{ℕ, _+_, _-_, _*_, _≤_}
+use Prim.Native.Nat.{_+_, _-_, _*_, _≤_}
 use native.Mathlib.Omega.{arith}
 use mathlib.Core.Path.{_≡_, refl, _∙_}
 use lib.Dec.{lit<}
@@ -20,6 +20,7 @@ Inv-loop bytes out₀ i₀ i-end out i = (i ≤ i-end) × (i-end ≡ length out�
 abbrev μ-loop : tie.MeasureT-loop
 μ-loop bytes out₀ i₀ i-end out i = i-end - i
 
+-- two bytes are a word, part by part
 joins : Joins (unpacked 16) 2 1
 joins = unpacks 16 2 1 (lit< tt) refl
 

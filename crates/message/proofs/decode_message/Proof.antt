@@ -3,8 +3,8 @@
 use Prim.Native.Nat.{ℕ, _+_, _-_, _*_, _≤_}
 use native.Mathlib.Omega.{arith}
 use borrow.Author.Needs.{needs}
-use mathlib.Core.Path.{_≡_, sym, ap, _∙_, subst}
-use lib.ListN.{length, take, drop, length-take, length-drop}
+use mathlib.Core.Path.{_≡_, ap, _∙_}
+use lib.ListN.{length-take, length-drop}
 use Rattle.lists.proofs.Parts.{Parts, parts-none, turn, turned}
 use Rattle.lists.proofs.Spans.{room, length-part}
 use Rattle.message.specs.Message.{decoded}

@@ -1,6 +1,5 @@
 -- `message::group_of` meets its contract: the masks, the multiple and the shift are document 01's floor((x mod q + h) / 2h) mod 2^b.
 -- Assumes nothing.
-use borrow.Author.Needs.{needs}
 use native.Mathlib.Omega.{arith}
 use Prim.Native.Nat.{ℕ, _+_, _-_, _*_, _/_, _%_, _^_, _≤_, _<_}
 use mathlib.Core.Path.{_≡_, sym, ap, _∙_, subst}
@@ -16,6 +15,7 @@ use Rattle.message.proofs.group_of.Tie as tie
 raised : (c : tie.After-half-step) → bitAnd (c .before .args .x) (c .before .args .q - 1) + c .half-step .result ≡ c .before .args .x % c .before .args .q + half (c .before .args .q) (c .before .args .b)
 raised c = λ i. masked (c .before .pre) (c .before .args .x) i + c .half-step .ensures i
 
+-- and that it is small
 raised-lt : (c : tie.After-half-step) → bitAnd (c .before .args .x) (c .before .args .q - 1) + c .half-step .result ≤ 98304
 raised-lt c =
     let k = c .before .pre in

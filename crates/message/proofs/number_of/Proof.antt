@@ -1,6 +1,6 @@
 -- `message::number_of` meets its contract: after i turns t is the number of the last i bytes.
 -- Assumes nothing.
-use Prim.Native.Nat.{_-_, _+_, _*_, _≤_}
+use Prim.Native.Nat.{_-_, _≤_}
 use native.Mathlib.Omega.{arith}
 use mathlib.Core.Path.{_≡_, refl}
 use lib.Dec.{lit<}

@@ -1,10 +1,10 @@
 -- `message::number_of_groups` meets its contract: after i turns t is the number of the last i groups.
 -- Assumes nothing.
-use Prim.Native.Nat.{ℕ, _-_, _+_, _*_, _^_, _≤_, _<_}
+use Prim.Native.Nat.{ℕ, _-_, _^_, _≤_, _<_}
 use native.Mathlib.Omega.{arith}
 use mathlib.Core.Path.{_≡_, sym, ap, _∙_, subst}
 use mathlib.Core.List.{map}
-use lib.ListN.{length, getD, length-map, List·getD-map}
+use lib.ListN.{length, length-map, List·getD-map}
 use lib.Pow.{pow-pos}
 use Rattle.bits.specs.Digits.{number}
 use Rattle.bits.proofs.FromTop.{Read, read-none, read-more, scaled-fits, more-fits, read-all}
@@ -24,6 +24,7 @@ loop-holds c =
     let a = c .before .before .args in
     (omega arith, c .count .ensures, length-map (a .w .now) (groupOf (a .q) (a .b)) ∙ c .before .before .pre .1, read-none _ _)
 
+-- eight groups fit 32 bits
 fits : (c : tie.At-loop Inv-loop μ-loop) → c .before .count .result ^ length (map (groupOf (c .before .before .before .args .q) (c .before .before .before .args .b)) (c .before .before .before .args .w .now)) ≤ 4294967296
 fits c = groups-fit (c .before .before .before .args .b) (omega arith) (c .loop .inv .1) (c .loop .inv .2)
 

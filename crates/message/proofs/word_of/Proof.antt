@@ -1,6 +1,5 @@
 -- `message::word_of` meets its contract: a group's word is below q, and so a word.
 -- Assumes nothing.
-use borrow.Author.Needs.{needs}
 use native.Mathlib.Omega.{arith}
 use Prim.Native.Nat.{ℕ, _*_, _/_, _%_, _^_, _<_}
 use mathlib.Core.Path.{sym, ap, subst}
@@ -12,6 +11,7 @@ use Rattle.message.proofs.RoundTrip.{word-lt}
 use Rattle.message.proofs.word_of.Statement.{statement}
 use Rattle.message.proofs.word_of.Tie as tie
 
+-- the product is a word
 small : (c : tie.After-low-bits) → c .low-bits .result * (c .before .args .q / 2 ^ c .before .args .b) < 65536
 unfolding wordOf
 small c =

@@ -1,6 +1,6 @@
 -- `noise::sample_word` meets its contract: after i turns `size` counts the first i entries.
 -- Assumes nothing.
-use Prim.Native.Nat.{ℕ, _≤_, _<_, _-_, _+_, _/_, _%_}
+use Prim.Native.Nat.{ℕ, _≤_, _-_, _+_, _/_, _%_}
 use native.Mathlib.Omega.{arith}
 use mathlib.Core.Path.{_≡_, refl, ap, _∙_}
 use lib.ListN.{length, take}
