@@ -1,0 +1,3 @@
+-- The laws of key generation's steps.
+pub mod Filled
+pub mod Laws

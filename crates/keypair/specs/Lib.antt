@@ -1,0 +1,2 @@
+-- What key generation asks and leaves.
+pub mod Made

@@ -1,0 +1,83 @@
+// Key generation from a seed, where all lengths are right (document 01, module 8).
+ghost use mathlib.Core.Path.{_≡_};
+ghost use mathlib.Core.List.{_++_};
+ghost use Prim.Native.Nat.{_*_};
+ghost use lib.ListN.{length, take};
+ghost use Rattle.bits.specs.Little.{bytesOf};
+ghost use Rattle.lengths.specs.Sized.{KeypairSized};
+ghost use Rattle.scheme.specs.Parts.{pkhOf};
+ghost use Rattle.scheme.specs.KeyGen.{seedS, keySeedA};
+ghost use Rattle.keypair.specs.Made.{MatrixSized, MatrixMade, PublicMade, SecretSized, KeypairMade};
+use codec::pack;
+use hashes::draw;
+use hashes::hash;
+use products::mul_add_as_plus_e_from_seed;
+use sets::Params;
+use words::bytes_of;
+use words::copy_bytes;
+use words::zero_bytes;
+use words::zero_words;
+
+// The key's matrices, where seedA is known. noise: S, E. work: B, then a row of A.
+pub fn key_matrix(p: Params, seed: &[u8], seed_a: &[u8], noise: &mut [u16], work: &mut [u16])
+    requires { ⌜ MatrixSized p (length (now seed)) (length (now noise)) (length (now work)) × (now «seed_a» ≡ keySeedA p (now seed)) ⌝ }
+    ensures { λ _. ⌜ MatrixMade p (now (seed .entry)) (now (noise .entry)) (now (work .entry)) (now (noise .exit)) (now (work .exit)) ⌝ }
+{
+    let l = p.secret;
+    let z = l + p.seedse;
+    let m = 8 * p.n;
+    let e = 16 * p.n;
+    let f = 9 * p.n;
+    draw(p, 0x5f, &seed[l..z], &mut noise[0..e]);
+    mul_add_as_plus_e_from_seed(p, seed_a, &noise[0..m], &noise[m..e], &mut work[0..f]);
+}
+
+// The public key: seedA, then B packed. The scratches as in `key_matrix`.
+pub fn public_key(p: Params, seed: &[u8], pk: &mut [u8], noise: &mut [u16], work: &mut [u16])
+    requires { ⌜ MatrixSized p (length (now seed)) (length (now noise)) (length (now work)) × (length (now pk) ≡ p .pk) ⌝ }
+    ensures { λ _. ⌜ PublicMade p (now (seed .entry)) (now (noise .entry)) (now (work .entry)) (now (pk .exit)) (now (noise .exit)) (now (work .exit)) ⌝ }
+{
+    let z = p.secret + p.seedse;
+    let y = p.seed;
+    let m = 8 * p.n;
+    let t = p.pk;
+    hash(p, &seed[z..y], &mut pk[0..16]);
+    key_matrix(p, seed, &pk[0..16], noise, work);
+    pack(p.d, &work[0..m], &mut pk[16..t]);
+}
+
+// The secret key: s, the public key, S with all 16 bits of its words, pkh.
+fn secret_key(p: Params, seed: &[u8], pk: &[u8], s: &[u16], sk: &mut [u8])
+    requires { ⌜ SecretSized p (length (now seed)) (length (now pk)) (length (now s)) (length (now sk)) ⌝ }
+    ensures { λ _. ⌜ now (sk .exit) ≡ seedS p (now (seed .entry)) ++ (now (pk .entry) ++ (bytesOf (now (s .entry)) ++ pkhOf p (now (pk .entry)))) ⌝ }
+{
+    let l = p.secret;
+    let a = l + p.pk;
+    let b = a + 16 * p.n;
+    let e = p.sk;
+    copy_bytes(&seed[0..l], &mut sk[0..l]);
+    copy_bytes(pk, &mut sk[l..a]);
+    bytes_of(s, &mut sk[a..b]);
+    hash(p, pk, &mut sk[b..e]);
+}
+
+// Both keys of the seed, which is zeroed, as are both scratches up to the set's lengths.
+pub fn generate(
+    p: Params,
+    seed: &mut [u8],
+    pk: &mut [u8],
+    sk: &mut [u8],
+    noise: &mut [u16],
+    work: &mut [u16],
+)
+    requires { ⌜ KeypairSized p (length (now seed)) (length (now pk)) (length (now sk)) (length (now noise)) (length (now work)) ⌝ }
+    ensures { λ _. ⌜ KeypairMade p (now (seed .entry)) (now (noise .entry)) (now (work .entry))
+        (now (seed .exit)) (now (pk .exit)) (now (sk .exit)) (now (noise .exit)) (now (work .exit)) ⌝ }
+{
+    let m = 8 * p.n;
+    public_key(p, seed, pk, noise, work);
+    secret_key(p, seed, pk, &noise[0..m], sk);
+    zero_bytes(seed);
+    zero_words(noise, p.noise);
+    zero_words(work, p.work);
+}
