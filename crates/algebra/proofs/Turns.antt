@@ -1,4 +1,4 @@
--- A product as a loop makes it: term by term, where `mul k` is the first k terms of the sums; and row by row, a part of the slice a turn; and what a loop makes entry by entry.
+-- A product as a loop makes it: term by term (`mul k` is the first k terms of its sums), row by row (a part of the slice a turn), or entry by entry.
 -- Assumes nothing.
 use mathlib.Core.Path.{_≡_, refl, sym, ap, ap₂, _∙_, subst}
 use mathlib.Core.List.{List}
@@ -12,8 +12,7 @@ use borrow.Rule.Slice.PartMut.{putMid}
 use Rattle.lists.specs.Lists.{tab, residues, Below}
 use Rattle.lists.proofs.Tables.{tab-cong, map-of-tab, known}
 use Rattle.lists.proofs.Loops.{Upto, none, moved, all}
-use Rattle.lists.proofs.Spans.{length-part, upto-part, upto-held, Begun, begun-none, begun-kept, begun-more}
-use Rattle.algebra.specs.Sum.{sum}
+use Rattle.lists.proofs.Spans.{upto-part, upto-held, Begun, begun-none, begun-kept, begun-more}
 use Rattle.algebra.specs.Matrix.{Matrix, mat, mul, _⊕_, table}
 use Rattle.algebra.proofs.Sums.{sum-start, sum-next, sum-ext}
 use Rattle.algebra.proofs.Tables.{is-table, words-table, words-cong, getD-kept, place}
@@ -67,10 +66,6 @@ flat m cols f t = f (t / cols) (t % cols) % m
 -- row i of a matrix, lent as a part
 abbrev pub part : (cols i : ℕ) (l : List ℕ) → List ℕ
 part cols i l = take (i * cols + cols - i * cols) (drop (i * cols) l)
-
--- its length
-pub part-length : (cols i : ℕ) (l : List ℕ) → i * cols + cols ≤ length l → length (part cols i l) ≡ cols
-part-length cols i l h = length-part (i * cols) cols l h
 
 -- its words
 pub part-at : (cols i : ℕ) (l : List ℕ) (j : ℕ) → j < cols → getD (part cols i l) j 0 ≡ mat cols l i j

@@ -14,13 +14,13 @@ pub fn dots(n: usize, e: &[u16], a: &[u16], s: &[u16]) -> [u16; 8]
     requires { ⌜ (length (now e) ≡ 8) × (length (now a) ≡ n) × (length (now s) ≡ 8 * n) ⌝ }
     ensures { λ r. ⌜ r ≡ residues 65536 (table 1 8 (mul n (mat n (now (a .entry))) (matT n (now (s .entry))) ⊕ mat 8 (now (e .entry)))) ⌝ }
 {
-    let mut t = load8(e, 0);
+    let mut sums = load8(e, 0);
     for j in 0..n {
         let y = column8(s, n, j);
-        let u = mac8(t, a[j], y);
-        t = u;
+        let next = mac8(sums, a[j], y);
+        sums = next;
     }
-    t
+    sums
 }
 
 // a * B + e for a row a of n words, where B is stored in n rows of 8.
@@ -28,13 +28,13 @@ pub fn fold(n: usize, e: &[u16], a: &[u16], b: &[u16]) -> [u16; 8]
     requires { ⌜ (length (now e) ≡ 8) × (length (now a) ≡ n) × (length (now b) ≡ 8 * n) ⌝ }
     ensures { λ r. ⌜ r ≡ residues 65536 (table 1 8 (mul n (mat n (now (a .entry))) (mat 8 (now (b .entry))) ⊕ mat 8 (now (e .entry)))) ⌝ }
 {
-    let mut t = load8(e, 0);
+    let mut sums = load8(e, 0);
     for j in 0..n {
         let y = load8(b, j * 8);
-        let u = mac8(t, a[j], y);
-        t = u;
+        let next = mac8(sums, a[j], y);
+        sums = next;
     }
-    t
+    sums
 }
 
 // x times each word of row, added to the words of out.

@@ -1,6 +1,6 @@
 -- A turn of a product from the seed: a row of A goes into its place behind 8n words of a scratch, and is taken into the product.
 -- Assumes nothing.
-use mathlib.Core.Path.{_≡_, refl, sym, ap, ap₂, _∙_}
+use mathlib.Core.Path.{_≡_, refl, ap, ap₂, _∙_}
 use mathlib.Core.List.{List}
 use Prim.Native.Nat.{ℕ, _+_, _*_, _-_, _≤_, _<_}
 use native.Mathlib.Omega.{arith}
@@ -8,7 +8,7 @@ use lib.ListN.{length, getD, take, drop}
 use borrow.Rule.Slice.PartMut.{putMid}
 use Rattle.lists.specs.Lists.{tab, residues}
 use Rattle.lists.proofs.Spans.{put-length, put-before, put-at}
-use Rattle.algebra.specs.Matrix.{Matrix, mat, matT, mul, _⊕_, table}
+use Rattle.algebra.specs.Matrix.{mat, matT, mul, _⊕_, table}
 use Rattle.algebra.proofs.Turns.{product-turn, row-of, part, part-at, Top, top-kept, top-more}
 use Rattle.sets.specs.declared.Params.{Params}
 use Rattle.rows.specs.Row.{row, matA}

@@ -26,14 +26,14 @@ pub fn mul_add_as_plus_e_from_seed(p: Params, seed: &[u8], s: &[u16], e: &[u16],
     ensures { λ _. ⌜ take (8 * p .n) (now (work .exit)) ≡ residues 65536 (table (p .n) 8 (mul (p .n) (matA p (now (seed .entry))) (matT (p .n) (now (s .entry))) ⊕ mat 8 (now (e .entry)))) ⌝ }
 {
     let n = p.n;
-    let m = 8 * n;
-    let f = 9 * n;
+    let from = 8 * n;
+    let to = 9 * n;
     for i in 0..n {
         let at = i * 8;
         let end = at + 8;
-        row(p, seed, i, &mut work[m..f]);
-        let v = dots(n, &e[at..end], &work[m..f], s);
-        store8(&mut work[at..end], v);
+        row(p, seed, i, &mut work[from..to]);
+        let sums = dots(n, &e[at..end], &work[from..to], s);
+        store8(&mut work[at..end], sums);
     }
 }
 
@@ -45,13 +45,13 @@ pub fn mul_add_sa_plus_e_from_seed(p: Params, seed: &[u8], noise: &mut [u16], ou
         × (take (8 * p .n) (now (noise .exit)) ≡ take (8 * p .n) (now (noise .entry))) ⌝ }
 {
     let n = p.n;
-    let m = 8 * n;
-    let f = 9 * n;
-    let g = 16 * n;
-    copy_words(&noise[m..g], out);
+    let from = 8 * n;
+    let to = 9 * n;
+    let all = 16 * n;
+    copy_words(&noise[from..all], out);
     for k in 0..n {
-        row(p, seed, k, &mut noise[m..f]);
-        add_row(n, out, &noise[0..m], &noise[m..f], k);
+        row(p, seed, k, &mut noise[from..to]);
+        add_row(n, out, &noise[0..from], &noise[from..to], k);
     }
 }
 
@@ -61,15 +61,15 @@ pub fn mul_add_sb_plus_e(p: Params, s: &[u16], b: &[u16], e: &[u16], out: &mut [
     ensures { λ _. ⌜ now (out .exit) ≡ residues (p .q) (table 8 8 (mul (p .n) (mat (p .n) (now (s .entry))) (mat 8 (now (b .entry))) ⊕ mat 8 (now (e .entry)))) ⌝ }
 {
     let n = p.n;
-    let m = mask(p);
+    let q_mask = mask(p);
     for i in 0..8 {
         let at = i * 8;
         let end = at + 8;
         let from = i * n;
         let to = from + n;
-        let v = fold(n, &e[at..end], &s[from..to], b);
-        let w = low8(v, m);
-        store8(&mut out[at..end], w);
+        let sums = fold(n, &e[at..end], &s[from..to], b);
+        let kept = low8(sums, q_mask);
+        store8(&mut out[at..end], kept);
     }
 }
 
@@ -79,16 +79,16 @@ pub fn mul_bs(p: Params, b: &[u16], s: &[u16], out: &mut [u16])
     ensures { λ _. ⌜ now (out .exit) ≡ residues (p .q) (table 8 8 (mul (p .n) (mat (p .n) (now (b .entry))) (matT (p .n) (now (s .entry))))) ⌝ }
 {
     let n = p.n;
-    let m = mask(p);
+    let q_mask = mask(p);
     let zero = [0u16; 8];
     for i in 0..8 {
         let at = i * 8;
         let end = at + 8;
         let from = i * n;
         let to = from + n;
-        let v = dots(n, &zero, &b[from..to], s);
-        let w = low8(v, m);
-        store8(&mut out[at..end], w);
+        let sums = dots(n, &zero, &b[from..to], s);
+        let kept = low8(sums, q_mask);
+        store8(&mut out[at..end], kept);
     }
 }
 
@@ -97,9 +97,9 @@ pub fn add(p: Params, rhs: &[u16], out: &mut [u16])
     requires { ⌜ Valid p × (length (now rhs) ≡ 64) × (length (now out) ≡ 64) ⌝ }
     ensures { λ _. ⌜ now (out .exit) ≡ residues (p .q) (table 8 8 (mat 8 (now (out .entry)) ⊕ mat 8 (now (rhs .entry)))) ⌝ }
 {
-    let m = mask(p);
+    let q_mask = mask(p);
     for i in 0..64 {
-        out[i] = add_low(out[i], rhs[i], m);
+        out[i] = add_low(out[i], rhs[i], q_mask);
     }
 }
 
@@ -108,8 +108,8 @@ pub fn sub(p: Params, lhs: &[u16], out: &mut [u16])
     requires { ⌜ Valid p × (length (now lhs) ≡ 64) × (length (now out) ≡ 64) ⌝ }
     ensures { λ _. ⌜ now (out .exit) ≡ table 8 8 (λ i j. minus (p .q) (mat 8 (now (lhs .entry)) i j) (mat 8 (now (out .entry)) i j)) ⌝ }
 {
-    let m = mask(p);
+    let q_mask = mask(p);
     for i in 0..64 {
-        out[i] = sub_low(lhs[i], out[i], m);
+        out[i] = sub_low(lhs[i], out[i], q_mask);
     }
 }

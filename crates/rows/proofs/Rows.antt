@@ -3,12 +3,12 @@
 use mathlib.Core.Path.{_≡_, sym, ap, _∙_, subst}
 use mathlib.Core.Logic.{⊎-elim}
 use mathlib.Core.List.{List}
-use Prim.Native.Nat.{ℕ, _+_, _*_, _-_, _%_, _^_, _≤_, _<_}
+use Prim.Native.Nat.{ℕ, _*_, _-_, _%_, _^_, _≤_, _<_}
 use native.Mathlib.Omega.{arith}
 use lib.Dec.{lit<}
 use lib.ListN.{length, length-map}
 use lib.Pow.{pow-pos}
-use Rattle.lists.specs.Lists.{residues, Below}
+use Rattle.lists.specs.Lists.{Below}
 use Rattle.lists.proofs.Tables.{below-residues}
 use Rattle.bits.proofs.Little.{length-words}
 use Rattle.words.specs.Words.{Mask}

@@ -1,7 +1,7 @@
 -- `eights::store8` meets its contract: after i turns the first i words stand.
 -- Assumes nothing.
 use native.Mathlib.Omega.{arith}
-use mathlib.Core.Path.{_≡_, refl, _∙_}
+use mathlib.Core.Path.{refl}
 use Prim.Native.Nat.{_-_, _≤_}
 use lib.ListN.{getD}
 use Rattle.lists.proofs.Loops.{Upto, none, more, copied-all}

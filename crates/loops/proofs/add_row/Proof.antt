@@ -2,14 +2,14 @@
 -- Assumes nothing.
 use native.Mathlib.Omega.{arith}
 use mathlib.Core.Path.{_≡_, ap, _∙_}
-use mathlib.Core.List.{List, map}
-use Prim.Native.Nat.{ℕ, _+_, _*_, _-_, _%_, _≤_, _<_}
+use mathlib.Core.List.{List}
+use Prim.Native.Nat.{ℕ, _+_, _*_, _-_, _≤_}
 use lib.ListN.{length, getD}
 use Rattle.lists.specs.Lists.{tab, residues}
 use Rattle.lists.proofs.Tables.{tab-cong}
 use Rattle.algebra.specs.Matrix.{Matrix, mat, _⊕_}
 use Rattle.algebra.proofs.Products.{within}
-use Rattle.algebra.proofs.Turns.{Rows, rows-none, rows-more, rows-held, rows-all, part, part-length}
+use Rattle.algebra.proofs.Turns.{Rows, rows-none, rows-more, rows-held, rows-all, part}
 use Rattle.loops.proofs.add_row.Statement.{statement}
 use Rattle.loops.proofs.add_row.Tie as tie
 
@@ -37,11 +37,6 @@ abbrev μ-loop : tie.MeasureT-loop
 fits : (c : tie.In-loop Inv-loop μ-loop) → let n = c .before .before .before .before .before .args .n in (c .before .loop .i * n + n ≤ 8 * n) × (length (c .before .loop .out) ≡ 8 * n)
 fits c = (within (c .before .loop .i) 8 (c .before .before .before .before .before .args .n) (omega arith), omega (arith, c .before .loop .inv .1 .upto .len))
 
-add-times-requires : tie.Need-add-times-requires Inv-loop μ-loop
-add-times-requires c κs = let l = c .before .before in
-    let n = l .before .before .before .before .before .args .n in
-    part-length n (l .before .loop .i) (l .before .loop .out) (omega (arith, fits l)) ∙ omega arith
-
 loop-again : tie.Need-loop-again Inv-loop μ-loop
 loop-again c = let l = c .before .before .before .before .before in
     let a = l .before .before .before .before .before .args in
@@ -60,7 +55,7 @@ add-row-spec =
     (λ c. omega (arith, fits c)) (λ c. omega (arith, fits c))
     (λ c. omega (arith, fits c)) (λ c. omega (arith, fits c)) (λ c. omega (arith, fits c)) (λ c. omega (arith, fits c))
     (λ c. omega (arith, fits (c .before))) (λ c. omega (arith, fits (c .before))) (λ c. omega (arith, fits (c .before .before)))
-    add-times-requires
+    (λ c κs. omega (arith, fits (c .before .before)))
     (λ c. omega arith) (λ c. omega arith)
     loop-again
     (λ c. c .before .loop .inv .1 .upto .len)

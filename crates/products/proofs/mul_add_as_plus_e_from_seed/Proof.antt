@@ -7,7 +7,7 @@ use mathlib.Core.List.{List}
 use Prim.Native.Nat.{ℕ, _*_, _-_, _≤_, _<_}
 use lib.ListN.{length, take}
 use Rattle.algebra.specs.Matrix.{Matrix, mat, matT, mul, _⊕_}
-use Rattle.algebra.proofs.Turns.{Top, top-none, top-all, part-length}
+use Rattle.algebra.proofs.Turns.{Top, top-none, top-all}
 use Rattle.sets.specs.declared.Params.{Params}
 use Rattle.rows.specs.Row.{matA}
 use Rattle.products.proofs.FromSeed.{as-turn, as-length}

@@ -3,9 +3,9 @@
 use native.Mathlib.Omega.{arith}
 use mathlib.Core.Path.{_≡_, refl, ap, _∙_}
 use mathlib.Core.List.{List}
-use Prim.Native.Nat.{ℕ, _*_, _-_, _≤_, _<_}
+use Prim.Native.Nat.{ℕ, _*_, _-_, _≤_}
 use lib.ListN.{length, take, drop, length-drop}
-use lib.Seq.{take-all, length-take-le}
+use lib.Seq.{take-all}
 use Rattle.lists.specs.Lists.{residues}
 use Rattle.lists.proofs.Tables.{below-drop}
 use Rattle.algebra.specs.Matrix.{mat, mul, _⊕_, table}
@@ -13,8 +13,7 @@ use Rattle.algebra.proofs.Tables.{length-kept}
 use Rattle.algebra.proofs.Turns.{product-start}
 use Rattle.sets.specs.declared.Params.{Params}
 use Rattle.rows.specs.Row.{matA}
-use Rattle.rows.proofs.Rows.{length-row}
-use Rattle.products.proofs.FromSeed.{placed-row, placed-length, placed-front, sa-turn}
+use Rattle.products.proofs.FromSeed.{placed-length, placed-front, sa-turn}
 use Rattle.products.proofs.mul_add_sa_plus_e_from_seed.Statement.{statement}
 use Rattle.products.proofs.mul_add_sa_plus_e_from_seed.Tie as tie
 
@@ -44,13 +43,8 @@ add-row-requires : tie.Need-add-row-requires Inv-loop μ-loop
 add-row-requires c κs = let r = c .before .before .before .before .before .before in
     let l = r .before .before .before .loop in
     let a = r .before .before .before .before .before .before .before .before .before .before .before .before .before .args in
-    let fits : 9 * a .p .n ≤ length (l .noise) = omega arith in
-    let same = placed-length (a .p) (a .seed .now) (l .k) (l .noise) fits (r .row .ensures) in (
-      ap length (l .inv .3) ∙ length-kept 65536 8 (a .p .n) _,
-      length-take-le (8 * a .p .n - 0) _ (omega arith) ∙ omega arith,
-      ap length (placed-row (a .p) (a .seed .now) (l .k) (l .noise) fits (r .row .ensures)) ∙ length-row (a .p) (a .seed .now) (l .k),
-      omega arith,
-    )
+    let full : length (l .out) ≡ 8 * a .p .n = ap length (l .inv .3) ∙ length-kept 65536 8 (a .p .n) _ in
+    omega arith
 
 loop-again : tie.Need-loop-again Inv-loop μ-loop
 loop-again c = let r = c .before .before .before .before .before .before .before .before .before in

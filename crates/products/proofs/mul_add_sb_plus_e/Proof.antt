@@ -3,12 +3,12 @@
 use native.Mathlib.Omega.{arith}
 use mathlib.Core.Path.{_≡_, ap, _∙_}
 use mathlib.Core.List.{List}
-use Prim.Native.Nat.{ℕ, _+_, _*_, _-_, _≤_, _<_}
+use Prim.Native.Nat.{ℕ, _+_, _*_, _-_, _≤_}
 use lib.ListN.{length}
 use Rattle.lists.specs.Lists.{tab, residues}
 use Rattle.algebra.specs.Matrix.{Matrix, mat, mul, _⊕_, table}
 use Rattle.algebra.proofs.Products.{within}
-use Rattle.algebra.proofs.Turns.{Rows, rows-none, rows-more, rows-all, row-of, part, part-length, part-at}
+use Rattle.algebra.proofs.Turns.{Rows, rows-none, rows-more, rows-all, row-of, part, part-at}
 use Rattle.products.proofs.Laws.{masked}
 use Rattle.products.proofs.mul_add_sb_plus_e.Statement.{statement}
 use Rattle.products.proofs.mul_add_sb_plus_e.Tie as tie
@@ -27,15 +27,6 @@ fits : (c : tie.In-loop Inv-loop μ-loop) → let n = c .before .before .before 
     (c .before .loop .i * n + n ≤ 8 * n) × (n ≤ 1344) × (length (c .before .loop .out) ≡ 64)
 fits c = let a = c .before .before .before .before .before .before .before in
     (within (c .before .loop .i) 8 (a .args .p .n) (omega arith), a .pre .0 .n-high, omega (arith, c .before .loop .inv .1 .upto .len))
-
-fold-requires : tie.Need-fold-requires Inv-loop μ-loop
-fold-requires c κs = let l = c .before .before in
-    let a = l .before .before .before .before .before .before .before .args in
-    (part-length 8 (l .before .loop .i) (a .e .now) (omega arith), part-length (a .p .n) (l .before .loop .i) (a .s .now) (omega (arith, fits l)), omega arith)
-
-store8-requires : tie.Need-store8-requires Inv-loop μ-loop
-store8-requires c κs = let l = c .before .before .before .before .before in
-    part-length 8 (l .before .loop .i) (l .before .loop .out) (omega (arith, fits l))
 
 loop-again : tie.Need-loop-again Inv-loop μ-loop
 loop-again c = let l = c .before .before .before .before .before .before .before .before in
@@ -66,10 +57,10 @@ mul-add-sb-plus-e-spec =
     (λ c. omega arith) (λ c. omega arith) (λ c. omega (arith, fits c)) (λ c. omega (arith, fits c))
     (λ c. omega (arith, fits c)) (λ c. omega (arith, fits c)) (λ c. omega (arith, fits c)) (λ c. omega (arith, fits c))
     (λ c. omega (arith, fits (c .before))) (λ c. omega (arith, fits (c .before))) (λ c. omega (arith, fits (c .before))) (λ c. omega (arith, fits (c .before)))
-    fold-requires
+    (λ c κs. omega (arith, fits (c .before .before)))
     (λ c κs. c .before .before .before .before .before .mask .ensures .0)
     (λ c. omega arith) (λ c. omega arith) (λ c. omega (arith, fits (c .before .before .before .before))) (λ c. omega (arith, fits (c .before .before .before .before)))
-    store8-requires
+    (λ c κs. omega (arith, fits (c .before .before .before .before .before)))
     (λ c. omega arith) (λ c. omega arith)
     loop-again
     (λ c. c .before .loop .inv .1 .upto .len)

@@ -3,14 +3,14 @@
 use native.Mathlib.Omega.{arith}
 use mathlib.Core.Path.{_≡_, ap, _∙_}
 use mathlib.Core.List.{List}
-use Prim.Native.Nat.{ℕ, _+_, _*_, _-_, _%_, _≤_, _<_}
+use Prim.Native.Nat.{ℕ, _+_, _*_, _-_, _%_, _≤_}
 use native.Mathlib.Nat.{add-zero}
 use lib.ListN.{length, replicate, getD-replicate}
 use Rattle.lists.specs.Lists.{tab, residues}
 use Rattle.algebra.specs.Matrix.{Matrix, mat, matT, mul, _⊕_, table}
 use Rattle.algebra.proofs.Products.{within}
 use Rattle.algebra.proofs.Tables.{words-cong}
-use Rattle.algebra.proofs.Turns.{Rows, rows-none, rows-more, rows-all, row-of, part, part-length, part-at}
+use Rattle.algebra.proofs.Turns.{Rows, rows-none, rows-more, rows-all, row-of, part, part-at}
 use Rattle.products.proofs.Laws.{masked}
 use Rattle.products.proofs.mul_bs.Statement.{statement}
 use Rattle.products.proofs.mul_bs.Tie as tie
@@ -30,15 +30,6 @@ fits : (c : tie.In-loop Inv-loop μ-loop) → let n = c .before .before .before 
     (c .before .loop .i * n + n ≤ 8 * n) × (n ≤ 1344) × (length (c .before .loop .out) ≡ 64)
 fits c = let a = c .before .before .before .before .before .before in
     (within (c .before .loop .i) 8 (a .args .p .n) (omega arith), a .pre .0 .n-high, omega (arith, c .before .loop .inv .1 .upto .len))
-
-dots-requires : tie.Need-dots-requires Inv-loop μ-loop
-dots-requires c κs = let l = c .before .before in
-    let a = l .before .before .before .before .before .before .args in
-    (omega arith, part-length (a .p .n) (l .before .loop .i) (a .b .now) (omega (arith, fits l)), omega arith)
-
-store8-requires : tie.Need-store8-requires Inv-loop μ-loop
-store8-requires c κs = let l = c .before .before .before .before .before in
-    part-length 8 (l .before .loop .i) (l .before .loop .out) (omega (arith, fits l))
 
 loop-again : tie.Need-loop-again Inv-loop μ-loop
 loop-again c = let l = c .before .before .before .before .before .before .before .before in
@@ -71,10 +62,10 @@ mul-bs-spec =
     (λ c. (omega arith, rows-none _ _ _ _))
     (λ c. omega arith) (λ c. omega arith) (λ c. omega (arith, fits c)) (λ c. omega (arith, fits c))
     (λ c. omega arith) (λ c. omega (arith, fits (c .before))) (λ c. omega (arith, fits (c .before))) (λ c. omega (arith, fits (c .before))) (λ c. omega (arith, fits (c .before)))
-    dots-requires
+    (λ c κs. omega (arith, fits (c .before .before)))
     (λ c κs. c .before .before .before .before .before .mask .ensures .0)
     (λ c. omega arith) (λ c. omega arith) (λ c. omega (arith, fits (c .before .before .before .before))) (λ c. omega (arith, fits (c .before .before .before .before)))
-    store8-requires
+    (λ c κs. omega (arith, fits (c .before .before .before .before .before)))
     (λ c. omega arith) (λ c. omega arith)
     loop-again
     (λ c. c .before .loop .inv .1 .upto .len)
