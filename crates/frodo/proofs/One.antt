@@ -1,0 +1,12 @@
+-- Each call's contract admits one outcome of one input.
+-- Assumes nothing.
+use mathlib.Core.Path.{_≡_, sym, _∙_}
+use Rattle.frodo.specs.Keypair.{keypairLeaves}
+use Rattle.frodo.specs.One.{OneOutcome, Keypair}
+
+-- a contract that says what is left as a function of what was lent
+by-function : {Lent Left : Type 0} (f : Lent → Left) → OneOutcome (λ (i : Lent) (o : Left). o ≡ f i)
+by-function f i x y e g = e ∙ sym g
+
+pub keypair-one : OneOutcome Keypair
+keypair-one = by-function keypairLeaves

@@ -1,0 +1,4 @@
+-- What each call leaves, whatever it is lent.
+pub mod Outcome
+pub mod Keypair
+pub mod One

@@ -1,0 +1,12 @@
+-- "What a signature on a function is worth" (document 01): of one input a call's contract admits one outcome.
+-- Assumes nothing.
+use mathlib.Core.Path.{_≡_}
+use Rattle.frodo.specs.Keypair.{KeypairLent, KeypairLeft, keypairLeaves}
+
+-- what the contracts say: what is left is a definition of what was lent
+abbrev pub Keypair : KeypairLent → KeypairLeft → Type 0
+Keypair i o = o ≡ keypairLeaves i
+
+-- a contract under which any two outcomes of one input coincide
+abbrev pub OneOutcome : {Lent Left : Type 0} → (Lent → Left → Type 0) → Type 0
+OneOutcome {Lent} {Left} R = (i : Lent) (x y : Left) → R i x → R i y → x ≡ y
