@@ -35,6 +35,11 @@ addByte x k b = bitXor x (b * 2 ^ (8 * (k % 8)) % 2 ^ 64)
 unfoldable pub xorByte : List ℕ → ℕ → ℕ → List ℕ
 xorByte s k b = set s (k / 8) (addByte (getD s (k / 8) 0) k b)
 
+-- the lanes s that take bytes one after the other, from place k on
+unfoldable pub xorBytes : List ℕ → ℕ → List ℕ → List ℕ
+xorBytes s k [] = s
+xorBytes s k (b ∷ bs) = xorBytes (xorByte s k b) (k + 1) bs
+
 -- a sponge that has absorbed nothing
 abbrev pub empty : ℕ → Sponge
 empty r = made (replicate 25 0) 0 r
