@@ -1,19 +1,20 @@
 -- FIPS 202, section 4: bytes absorbed one at a time are absorbed block by block. Assumes nothing.
 use mathlib.Core.Path.{_≡_, refl, sym, ap, ap₂, _∙_, subst}
 use mathlib.Core.List.{List, [], _∷_, _++_}
-use Prim.Native.Nat.{ℕ, zero, suc, _+_, _*_, _%_, _≤_, _<_}
+use Prim.Native.Nat.{ℕ, zero, suc, _+_, _-_, _*_, _%_, _≤_, _<_}
 use native.Mathlib.Nat.{add-zero, zero-mul, suc-mul, mod-eq-of-lt}
 use native.Mathlib.Omega.{arith}
-use lib.ListN.{length, getD, take, drop, length-drop, length-set, take-append-drop}
-use lib.Seq.{length-take-le, take-add, take-length, drop-cons}
+use lib.ListN.{length, take, drop, length-drop, length-set, take-append-drop}
+use lib.Seq.{length-take-le, take-add, take-length}
 use Rattle.lists.specs.Lists.{Below}
 use Rattle.lists.proofs.Tables.{below-take, below-drop}
+use Rattle.lists.proofs.Spans.{length-mid}
 use Rattle.keccak.specs.Keccak.{keccakF}
 use Rattle.shake.specs.Shake.{addBlock, absorbBlocks}
-use Rattle.shake.specs.Sponge.{made, xorByte, turned, absorbByte, absorbBytes, Ready, Squeezing}
+use Rattle.shake.specs.Sponge.{made, xorByte, xorBytes, turned, absorbByte, absorbBytes, Ready, Squeezing}
 use Rattle.shake.specs.declared.Sponge.{Sponge}
 use Rattle.shake.proofs.Turn.{turn-full, turn-part, ready-turned, rate-turned, lanes-turned, place-turned, length-keccakF}
-use Rattle.shake.proofs.Lanes.{xorBytes, add-bytes}
+use Rattle.shake.proofs.Lanes.{add-bytes}
 
 -- one list after another
 pub absorb-append : (p : Sponge) (xs ys : List ℕ) → absorbBytes p (xs ++ ys) ≡ absorbBytes (absorbBytes p xs) ys
@@ -76,11 +77,6 @@ took-part {p₀} {p} {q} {n} {xs} m t e = record {
   ready = subst (λ (z : Sponge). Ready z) (sym e) (ready-bytes p (take m (drop n xs)) (t .ready));
 }
 
--- one more is
-pub took-byte : {p₀ p q : Sponge} {n : ℕ} {xs : List ℕ} → Took p₀ n xs p → n < length xs → q ≡ absorbByte p (getD xs n 0) → Took p₀ (n + 1) xs q
-unfolding absorbBytes
-took-byte {p₀} {p} {q} {n} {xs} t l e = took-part 1 t (e ∙ sym (ap (λ (z : List ℕ). absorbBytes p (take 1 z)) (drop-cons xs n 0 l)))
-
 -- all are
 pub took-all : {p₀ p : Sponge} {n : ℕ} {xs : List ℕ} → Took p₀ n xs p → n ≡ length xs → p ≡ absorbBytes p₀ xs
 took-all {p₀} {p} {n} {xs} t e = t .is ∙ ap (absorbBytes p₀) (ap (λ (k : ℕ). take k xs) e ∙ take-length xs)
@@ -96,6 +92,16 @@ absorb-within s k r (b ∷ c ∷ p) h l =
     ap (λ (q : Sponge). absorbBytes q (c ∷ p)) (turn-part (made (xorByte s k b) (k + 1) r) (λ z. omega arith))
     ∙ absorb-within (xorByte s k b) (k + 1) r (c ∷ p) (omega arith) (omega arith)
     ∙ ap (λ (n : ℕ). turned (made (xorBytes s k (b ∷ c ∷ p)) n r)) e
+
+-- m more of xs are absorbed, as many as the block has room for at the most
+pub took-block : {p₀ q : Sponge} {s u xs : List ℕ} {k r n : ℕ} (m : ℕ) → Took p₀ n xs (made s k r) → k + m ≤ r → n + m ≤ length xs
+    → u ≡ xorBytes s k (take (n + m - n) (drop n xs)) → q ≡ turned (made u (k + m) r) → Took p₀ (n + m) xs q
+took-block {p₀} {q} {s} {u} {xs} {k} {r} {n} m t l h e f =
+    let d : n + m - n ≡ m = omega arith in
+    let z : length (take m (drop n xs)) ≡ m = length-mid n m xs h in
+    took-part m t
+    (f ∙ ap₂ (λ (v : List ℕ) (j : ℕ). turned (made v (k + j) r)) (e ∙ ap (λ (j : ℕ). xorBytes s k (take j (drop n xs))) d) (sym z)
+    ∙ sym (absorb-within s k r (take m (drop n xs)) (t .ready .within) (omega arith)))
 
 -- ---- whole blocks
 

@@ -17,7 +17,7 @@ use Rattle.lists.proofs.Tables.{length-tab, getD-tab, tab-cong, known}
 use Rattle.bits.specs.Digits.{number}
 use Rattle.bits.proofs.Xor.{xor-assoc, number-xor}
 use Rattle.shake.specs.Shake.{addBlock}
-use Rattle.shake.specs.Sponge.{xorByte, addByte}
+use Rattle.shake.specs.Sponge.{xorByte, xorBytes, addByte}
 
 -- i is below j, or is j, or is above
 order : (i j : ℕ) → (i < j) ⊎ ((i ≡ j) ⊎ (j < i))
@@ -92,10 +92,6 @@ module _ (s p : List ℕ) (b : ℕ) (hb : b < 256) (room : length p < 200) where
       (λ i h. let k : i < 25 = subst (λ (n : ℕ). i < n) (length-tab 25 new) h in getD-tab 25 new i k ∙ at i k (order i (length p / 8)))
 
 -- ---- bytes one after the other, from place k on
-
-unfoldable pub xorBytes : List ℕ → ℕ → List ℕ → List ℕ
-xorBytes s k [] = s
-xorBytes s k (b ∷ bs) = xorBytes (xorByte s k b) (k + 1) bs
 
 -- a block q, and bytes behind it
 add-more : (s q p : List ℕ) → Below 256 p → length q + length p ≤ 200 → addBlock s (q ++ p) ≡ xorBytes (addBlock s q) (length q) p

@@ -2,6 +2,7 @@
 pub mod Length
 pub mod Turn
 pub mod Lanes
+pub mod Add
 pub mod Absorb
 pub mod Padding
 pub mod Squeeze

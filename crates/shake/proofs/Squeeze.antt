@@ -54,6 +54,19 @@ gave-more {p₀} {p} {q} {n} m g e = record {
   squeezing = subst (λ (z : Sponge). Squeezing z) (sym e) (squeezing-after p m (g .squeezing));
 }
 
+-- where its block is turned there is a byte to give
+pub gave-ready : {p₀ p q : Sponge} {n : ℕ} → Gave p₀ n p → q ≡ turned p → Ready q
+gave-ready {p₀} {p} g t = subst (λ (z : Sponge). Ready z) (sym t) (ready-turned p (g .squeezing))
+
+-- which is the next
+pub gave-byte : {p₀ p q : Sponge} {n : ℕ} → Gave p₀ n p → q ≡ turned p → byteAt (q .lanes) (q .at) ≡ nth p₀ n
+gave-byte g t = ap (λ (z : Sponge). byteAt (z .lanes) (z .at)) (t ∙ ap turned (g .is))
+
+-- and is given
+pub gave-next : {p₀ p q : Sponge} {n : ℕ} → Gave p₀ n p → q ≡ turned p → Gave p₀ (n + 1) (stepped q)
+unfolding after
+gave-next g t = gave-more 1 g (ap stepped t)
+
 -- as many in other words
 pub gave-all : {p₀ p : Sponge} {n : ℕ} (m : ℕ) → Gave p₀ n p → n ≡ m → p ≡ after p₀ m
 gave-all {p₀} m g e = g .is ∙ ap (after p₀) e

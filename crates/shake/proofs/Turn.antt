@@ -68,11 +68,3 @@ turned-turned p h = let r : Ready (turned p) = ready-turned p h in turn-part (tu
   where
     apart : (a r : ℕ) → a < r → a ≡ r → ⊥
     apart a r l e = omega arith
-
--- ---- `if at == rate { permute(&mut lanes); at = 0; }`, where its two ways meet
-
-pub met-end : (p : Sponge) {lanes : List ℕ} {at : ℕ} → p .at ≡ p .rate → lanes ≡ keccakF (p .lanes) → at ≡ 0 → made lanes at (p .rate) ≡ turned p
-met-end p e l k = (λ i. made (l i) (k i) (p .rate)) ∙ sym (turn-full p e)
-
-pub met-on : (p : Sponge) {lanes : List ℕ} {at : ℕ} → (p .at ≡ p .rate → ⊥) → lanes ≡ p .lanes → at ≡ p .at → made lanes at (p .rate) ≡ turned p
-met-on p n l k = (λ i. made (l i) (k i) (p .rate)) ∙ sym (turn-part p n)

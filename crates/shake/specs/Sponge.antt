@@ -3,6 +3,7 @@
 use mathlib.Core.Path.{_≡_}
 use mathlib.Core.Bool.{Bool, true, false}
 use mathlib.Core.List.{List, [], _∷_}
+use mathlib.Core.Logic.{_⊎_}
 use Prim.Native.Nat.{ℕ, zero, suc, _+_, _-_, _*_, _/_, _%_, _^_, _≤_, _<_}
 use lib.Bits.{bitXor}
 use lib.Dec.{eqb}
@@ -33,6 +34,11 @@ addByte x k b = bitXor x (b * 2 ^ (8 * (k % 8)) % 2 ^ 64)
 -- the lanes s that take the byte b at place k
 unfoldable pub xorByte : List ℕ → ℕ → ℕ → List ℕ
 xorByte s k b = set s (k / 8) (addByte (getD s (k / 8) 0) k b)
+
+-- the lanes s that take bytes one after the other, from place k on
+unfoldable pub xorBytes : List ℕ → ℕ → List ℕ → List ℕ
+xorBytes s k [] = s
+xorBytes s k (b ∷ bs) = xorBytes (xorByte s k b) (k + 1) bs
 
 -- a sponge that has absorbed nothing
 abbrev pub empty : ℕ → Sponge
@@ -73,6 +79,10 @@ nth p k = first (after p k)
 unfoldable pub squeezed : Sponge → ℕ → List ℕ
 squeezed p n = tab n (nth p)
 
+-- the two bytes of a state from an even place k on
+abbrev pub wordAt : List ℕ → ℕ → ℕ
+wordAt s k = getD s (k / 8) 0 / 2 ^ (8 * (k % 8)) % 65536
+
 -- ---- what the functions ask
 
 -- a byte can be absorbed
@@ -90,3 +100,8 @@ pub record Squeezing (p : Sponge) : Type 0 where
 pub record Even (p : Sponge) : Type 0 where
   pub rate : p .rate % 2 ≡ 0
   pub place : p .at % 2 ≡ 0
+
+-- r lanes are whole where n elements, `size` of them a lane, stand from place k on
+pub record Whole (k n size r : ℕ) : Type 0 where
+  pub within : r * size ≤ n
+  pub lane : (k % 8 ≡ 0) ⊎ (r ≡ 0)

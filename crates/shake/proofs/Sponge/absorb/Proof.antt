@@ -1,43 +1,42 @@
--- `absorb` absorbs byte after byte: the invariant is `Took`.
+-- `absorb` adds to the block what it has room for, a turn: the invariant is `Took`.
 -- Assumes nothing.
-use mathlib.Core.Path.{_≡_, ap, _∙_}
-use mathlib.Core.Logic.{⊎-elim}
-use Prim.Native.Nat.{ℕ, _+_, _-_, _/_, _≤_}
+use mathlib.Core.Path.{_≡_}
+use Prim.Native.Nat.{_+_, _-_, _≤_, _<_}
 use native.Mathlib.Omega.{arith}
 use borrow.Author.Needs.{needs}
-use lib.ListN.{length, set, getD}
-use Rattle.keccak.specs.Keccak.{keccakF}
-use Rattle.shake.specs.Sponge.{made, xorByte, absorbByte}
-use Rattle.shake.proofs.Turn.{met-end, met-on}
-use Rattle.shake.proofs.Absorb.{Took, took-none, took-byte, took-all}
+use lib.ListN.{length}
+use Rattle.shake.specs.Sponge.{made}
+use Rattle.shake.proofs.Absorb.{Took, took-none, took-block, took-all}
 use Rattle.shake.proofs.Sponge.absorb.Statement.{statement}
 use Rattle.shake.proofs.Sponge.absorb.Tie as tie
 
 abbrev Inv-loop : tie.InvT-loop
-Inv-loop bytes lanes₀ at₀ rate i₀ i-end lanes at i = (i ≤ i-end) × (i-end ≡ length bytes) × Took (made lanes₀ at₀ rate) i bytes (made lanes at rate)
+Inv-loop bytes lanes₀ at₀ rate n i₀ lanes at i = (i ≤ n) × (n ≡ length bytes) × Took (made lanes₀ at₀ rate) i bytes (made lanes at rate)
 
 abbrev μ-loop : tie.MeasureT-loop
-μ-loop bytes lanes₀ at₀ rate i₀ i-end lanes at i = i-end - i
+μ-loop bytes lanes₀ at₀ rate n i₀ lanes at i = n - i
 
--- a turn of the loop absorbs a byte
-turn : (c : tie.Joined1 Inv-loop μ-loop)
-    → made (c .if1 .lanes) (c .if1 .at) (c .before .before .before .before .before .before .before .args .self .rate)
-    ≡ absorbByte (made (c .before .before .before .before .loop .lanes) (c .before .before .before .before .loop .at) (c .before .before .before .before .before .before .before .args .self .rate))
-    (getD (c .before .before .before .before .before .before .before .args .bytes .now) (c .before .before .before .before .loop .i) 0)
-unfolding absorbByte xorByte
-turn c =
-    let loop = c .before .before .before .before .loop in
-    let added = ap (set (loop .lanes) (loop .at / 8)) (c .before .add-byte .ensures) in
-    ⊎-elim (λ w. met-end _ (w .0 .taken) (w .3 ∙ w .2 .ensures ∙ ap keccakF added) (w .4)) (λ w. met-on _ (w .0 .left) (w .1 ∙ added) (w .2)) (c .if1 .came)
+-- a turn takes at least one byte, and no more than the block has room for and the slice has
+share : (c : tie.After-least Inv-loop μ-loop)
+    → (0 < c .least .result) × (c .before .before .loop .at + c .least .result ≤ c .before .before .before .before .before .args .self .rate)
+    × (c .before .before .loop .i + c .least .result ≤ length (c .before .before .before .before .before .args .bytes .now))
+    × (c .before .before .before .before .before .args .self .rate ≤ 200)
+share c = let ready = c .before .before .loop .inv .2 .ready in omega (arith, ready .within, ready .small)
 
 loop-again : tie.Need-loop-again Inv-loop μ-loop
-loop-again c = (omega arith, omega arith, took-byte (c .before .before .before .before .loop .inv .2) (omega arith) (turn c))
-
-returns : tie.Need-returns Inv-loop μ-loop
-returns c = took-all (c .before .loop .inv .2) (omega arith)
+loop-again c =
+    let bounds = share (c .before .before .before .before .before) in (
+      bounds .2,
+      omega arith,
+      took-block _ (c .before .before .before .before .before .before .before .loop .inv .2) (bounds .1) (bounds .2) (c .before .before .add-block .ensures) (c .next-block .ensures),
+    )
 
 pub absorb-spec : {M : Type 1} → statement M
 absorb-spec = tie.close (tie.spec Inv-loop μ-loop
     (λ c. (omega arith, omega arith, took-none _ _ (c .before .before .pre)))
-    (λ c. omega arith) (λ c. omega arith) (λ c. omega arith) (λ c κs. search needs) (λ c. omega arith) (λ c. omega arith) (λ c. omega arith) (λ c κs. search needs) (λ c. omega arith) (λ c. omega arith)
-    loop-again returns)
+    (λ c. omega (arith, c .before .loop .inv .2 .ready .within)) (λ c. omega arith) (λ c κs. search needs)
+    (λ c. omega (arith, share c)) (λ c. omega (arith, share (c .before))) (λ c. omega (arith, share (c .before))) (λ c. omega (arith, share (c .before)))
+    (λ c κs. omega (arith, share (c .before .before)))
+    (λ c. omega (arith, share (c .before .before .before))) (λ c κs. search needs)
+    (λ c. omega (arith, share (c .before .before .before .before .before)))
+    loop-again (λ c. took-all (c .before .loop .inv .2) (omega arith)))

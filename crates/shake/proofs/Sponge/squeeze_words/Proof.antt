@@ -1,40 +1,40 @@
--- `squeeze_words` gives word after word: the invariants are `GaveWords`, and `Upto` for the slice.
+-- `squeeze_words` gives the words of a block a turn: the invariants are `GaveWords`, and `Upto` for the slice.
 -- Assumes nothing.
-use mathlib.Core.Path.{_≡_, sym, _∙_}
-use mathlib.Core.Logic.{⊎-elim}
-use Prim.Native.Nat.{_-_, _≤_}
+use mathlib.Core.Path.{_≡_, _∙_}
+use Prim.Native.Nat.{_+_, _*_, _-_, _≤_, _<_}
 use native.Mathlib.Omega.{arith}
 use borrow.Author.Needs.{needs}
 use lib.ListN.{length}
-use Rattle.lists.proofs.Loops.{Upto, none, more, all}
-use Rattle.shake.specs.Sponge.{made, turned}
-use Rattle.shake.proofs.Turn.{met-end, met-on}
+use Rattle.lists.proofs.Loops.{Upto, none, all}
+use Rattle.shake.specs.Sponge.{made}
 use Rattle.shake.proofs.Squeeze.{gave-all}
-use Rattle.shake.proofs.Words.{word, words-are, GaveWords, words-none, words-ready, words-more, words-first}
+use Rattle.shake.proofs.Words.{word, words-are, GaveWords, words-none, words-ready, words-more, words-part}
 use Rattle.shake.proofs.Sponge.squeeze_words.Statement.{statement}
 use Rattle.shake.proofs.Sponge.squeeze_words.Tie as tie
 
 abbrev Inv-loop : tie.InvT-loop
-Inv-loop out₀ lanes₀ at₀ rate i₀ i-end out lanes at i =
-    (i ≤ i-end) × (i-end ≡ length out₀) × GaveWords (made lanes₀ at₀ rate) i (made lanes at rate) × Upto (word (made lanes₀ at₀ rate)) i out₀ out
+Inv-loop out₀ lanes₀ at₀ rate n i₀ out lanes at i =
+    (i ≤ n) × (n ≡ length out₀) × GaveWords (made lanes₀ at₀ rate) i (made lanes at rate) × Upto (word (made lanes₀ at₀ rate)) i out₀ out
 
 abbrev μ-loop : tie.MeasureT-loop
-μ-loop out₀ lanes₀ at₀ rate i₀ i-end out lanes at i = i-end - i
+μ-loop out₀ lanes₀ at₀ rate n i₀ out lanes at i = n - i
 
--- where the ways of the `if` meet there are two bytes to give
-met : (c : tie.Joined1 Inv-loop μ-loop)
-    → made (c .if1 .lanes) (c .if1 .at) (c .before .before .before .before .before .args .self .rate)
-    ≡ turned (made (c .before .before .loop .lanes) (c .before .before .loop .at) (c .before .before .before .before .before .args .self .rate))
-met c = ⊎-elim (λ w. met-end _ (w .0 .taken) (w .3 ∙ w .2 .ensures) (w .4)) (λ w. met-on _ (w .0 .left) (w .1) (w .2)) (c .if1 .came)
+-- a turn gives at least one word, and no more than the block and the slice have
+share : (c : tie.After-least Inv-loop μ-loop)
+    → (0 < c .least .result) × (c .before .next-block .result + 2 * c .least .result ≤ c .before .before .before .before .before .before .before .args .self .rate)
+    × (c .before .before .before .before .loop .i + c .least .result ≤ length (c .before .before .before .before .before .before .before .args .out .now))
+    × (c .before .before .before .before .before .before .before .args .self .rate ≤ 200)
+share c = omega (arith, words-ready (c .before .before .before .before .loop .inv .2) (c .before .next-block .ensures))
 
 loop-again : tie.Need-loop-again Inv-loop μ-loop
 loop-again c =
-    let inv = c .before .before .before .before .loop .inv in
-    let turn = met (c .before .before) in (
+    let inv = c .before .before .before .before .before .before .before .before .before .loop .inv in
+    let turn = c .before .before .before .before .before .before .next-block .ensures in
+    let bounds = share (c .before .before .before .before .before) in (
+      bounds .2,
       omega arith,
-      omega arith,
-      words-more (inv .2) turn 1 (omega arith) (words-ready (inv .2) turn .0),
-      more (inv .3) (omega arith) (c .word-at .ensures ∙ sym (words-first (inv .2) turn)),
+      words-more (inv .2) turn _ (bounds .0) (bounds .1),
+      words-part (inv .2) turn _ _ (inv .3) (bounds .1) (bounds .2) (c .before .before .put-block .ensures),
     )
 
 returns : tie.Need-returns Inv-loop μ-loop
@@ -46,8 +46,16 @@ pub squeeze-words-spec : {M : Type 1} → statement M
 squeeze-words-spec = tie.close (tie.spec Inv-loop μ-loop
     (λ c. (omega arith, omega arith, words-none _ (c .before .before .pre .0) (c .before .before .pre .1), none _ _))
     (λ c κs. search needs)
-    (λ c. omega (arith, words-ready (c .before .before .before .loop .inv .2) (met (c .before))))
-    (λ c. omega (arith, words-ready (c .before .before .before .loop .inv .2) (met (c .before))))
-    (λ c κs. search needs) (λ c. omega arith) (λ c. omega arith)
-    (λ c. omega (arith, words-ready (c .before .before .before .before .loop .inv .2) (met (c .before .before))))
-    (λ c. omega arith) (λ c. omega arith) loop-again (λ c. c .before .loop .inv .3 .len) returns)
+    (λ c. omega (arith, words-ready (c .before .before .before .loop .inv .2) (c .next-block .ensures)))
+    (λ c. omega arith)
+    (λ c κs. search needs)
+    (λ c. omega (arith, share c))
+    (λ c. omega (arith, share (c .before)))
+    (λ c. omega (arith, share (c .before)))
+    (λ c. omega (arith, share (c .before)))
+    (λ c. omega (arith, share (c .before)))
+    (λ c κs. omega (arith, share (c .before .before)))
+    (λ c. omega (arith, share (c .before .before .before .before .before)))
+    (λ c. omega (arith, share (c .before .before .before .before .before)))
+    (λ c. omega (arith, share (c .before .before .before .before .before)))
+    loop-again (λ c. c .before .loop .inv .3 .len) returns)
