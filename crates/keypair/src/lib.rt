@@ -1,8 +1,7 @@
 // Key generation from a seed, where all lengths are right (document 01, module 8).
 ghost use mathlib.Core.Path.{_≡_};
 ghost use mathlib.Core.List.{_++_};
-ghost use Prim.Native.Nat.{_*_};
-ghost use lib.ListN.{length, take};
+ghost use lib.ListN.{length};
 ghost use Rattle.bits.specs.Little.{bytesOf};
 ghost use Rattle.lengths.specs.Sized.{KeypairSized};
 ghost use Rattle.scheme.specs.Parts.{pkhOf};
@@ -23,12 +22,12 @@ pub fn key_matrix(p: Params, seed: &[u8], seed_a: &[u8], noise: &mut [u16], work
     requires { ⌜ MatrixSized p (length (now seed)) (length (now noise)) (length (now work)) × (now «seed_a» ≡ keySeedA p (now seed)) ⌝ }
     ensures { λ _. ⌜ MatrixMade p (now (seed .entry)) (now (noise .entry)) (now (work .entry)) (now (noise .exit)) (now (work .exit)) ⌝ }
 {
-    let l = p.secret;
-    let z = l + p.seedse;
+    let from = p.secret;
+    let to = from + p.seedse;
     let m = 8 * p.n;
     let e = 16 * p.n;
     let f = 9 * p.n;
-    draw(p, 0x5f, &seed[l..z], &mut noise[0..e]);
+    draw(p, 0x5f, &seed[from..to], &mut noise[0..e]);
     mul_add_as_plus_e_from_seed(p, seed_a, &noise[0..m], &noise[m..e], &mut work[0..f]);
 }
 
@@ -37,13 +36,13 @@ pub fn public_key(p: Params, seed: &[u8], pk: &mut [u8], noise: &mut [u16], work
     requires { ⌜ MatrixSized p (length (now seed)) (length (now noise)) (length (now work)) × (length (now pk) ≡ p .pk) ⌝ }
     ensures { λ _. ⌜ PublicMade p (now (seed .entry)) (now (noise .entry)) (now (work .entry)) (now (pk .exit)) (now (noise .exit)) (now (work .exit)) ⌝ }
 {
-    let z = p.secret + p.seedse;
-    let y = p.seed;
+    let from = p.secret + p.seedse;
+    let to = p.seed;
     let m = 8 * p.n;
-    let t = p.pk;
-    hash(p, &seed[z..y], &mut pk[0..16]);
+    let end = p.pk;
+    hash(p, &seed[from..to], &mut pk[0..16]);
     key_matrix(p, seed, &pk[0..16], noise, work);
-    pack(p.d, &work[0..m], &mut pk[16..t]);
+    pack(p.d, &work[0..m], &mut pk[16..end]);
 }
 
 // The secret key: s, the public key, S with all 16 bits of its words, pkh.
@@ -51,14 +50,14 @@ fn secret_key(p: Params, seed: &[u8], pk: &[u8], s: &[u16], sk: &mut [u8])
     requires { ⌜ SecretSized p (length (now seed)) (length (now pk)) (length (now s)) (length (now sk)) ⌝ }
     ensures { λ _. ⌜ now (sk .exit) ≡ seedS p (now (seed .entry)) ++ (now (pk .entry) ++ (bytesOf (now (s .entry)) ++ pkhOf p (now (pk .entry)))) ⌝ }
 {
-    let l = p.secret;
-    let a = l + p.pk;
-    let b = a + 16 * p.n;
-    let e = p.sk;
-    copy_bytes(&seed[0..l], &mut sk[0..l]);
-    copy_bytes(pk, &mut sk[l..a]);
-    bytes_of(s, &mut sk[a..b]);
-    hash(p, pk, &mut sk[b..e]);
+    let at_pk = p.secret;
+    let at_s = at_pk + p.pk;
+    let at_pkh = at_s + 16 * p.n;
+    let end = p.sk;
+    copy_bytes(&seed[0..at_pk], &mut sk[0..at_pk]);
+    copy_bytes(pk, &mut sk[at_pk..at_s]);
+    bytes_of(s, &mut sk[at_s..at_pkh]);
+    hash(p, pk, &mut sk[at_pkh..end]);
 }
 
 // Both keys of the seed, which is zeroed, as are both scratches up to the set's lengths.
