@@ -23,6 +23,7 @@ abbrev pub placeOf : (p : Params) (xs : List ℕ) → List ℕ
 placeOf p xs = take (9 * p .n - 8 * p .n) (drop (8 * p .n) xs)
 
 module _ (p : Params) (seedA : List ℕ) (i : ℕ) (xs : List ℕ) {r : List ℕ} (fits : 9 * p .n ≤ length xs) (is-row : r ≡ row p seedA i) where
+  -- the row fills its place
   sized : length r ≡ 9 * p .n - 8 * p .n
   sized = ap length is-row ∙ length-row p seedA i ∙ omega arith
 
@@ -38,24 +39,29 @@ module _ (p : Params) (seedA : List ℕ) (i : ℕ) (xs : List ℕ) {r : List ℕ
   pub placed-front : take (8 * p .n) (placed p xs r) ≡ take (8 * p .n) xs
   placed-front = put-before (8 * p .n) (9 * p .n - 8 * p .n) xs r (omega arith) sized (8 * p .n) (omega arith)
 
-  -- A S + E: row i of the result is written
+  -- ---- A S + E: row i of the result is written
   module _ (s e : List ℕ) (hi : i < p .n) {v st : List ℕ}
       (hv : v ≡ residues 65536 (table 1 8 (mul (p .n) (mat (p .n) (placeOf p (placed p xs r))) (matT (p .n) s) ⊕ mat 8 (part 8 i e)))) (hs : st ≡ v)
     where
+      -- the words that go there
       words : st ≡ residues 65536 (tab 8 ((mul (p .n) (matA p seedA) (matT (p .n) s) ⊕ mat 8 e) i))
       words =
           hs ∙ hv
           ∙ ap (λ (a : List ℕ). residues 65536 (table 1 8 (mul (p .n) (mat (p .n) a) (matT (p .n) s) ⊕ mat 8 (part 8 i e)))) placed-row
           ∙ ap (residues 65536) (row-of (p .n) 8 i (matA p seedA) (matT (p .n) s) (mat 8 e) (row p seedA i) (part 8 i e) (λ k _. refl) (part-at 8 i e))
 
+      -- one row more stands
       pub as-turn : Top 65536 8 (mul (p .n) (matA p seedA) (matT (p .n) s) ⊕ mat 8 e) i xs
           → Top 65536 8 (mul (p .n) (matA p seedA) (matT (p .n) s) ⊕ mat 8 e) (i + 1) (putMid (i * 8) (i * 8 + 8 - i * 8) (placed p xs r) st)
       as-turn t = top-more (top-kept (8 * p .n) (9 * p .n - 8 * p .n) r t (omega arith) (omega arith) sized) (omega (arith, placed-length)) words
 
+      -- the length stays
       pub as-length : length (putMid (i * 8) (i * 8 + 8 - i * 8) (placed p xs r) st) ≡ length xs
       as-length = put-length (i * 8) (i * 8 + 8 - i * 8) (placed p xs r) st (omega (arith, placed-length)) (ap length words ∙ omega arith) ∙ placed-length
 
-  -- S' A + E': row i of A is taken in
+  -- ---- S' A + E'
+
+  -- row i of A is taken in
   pub sa-turn : (s e : List ℕ) {o o' : List ℕ} (w : ℕ) → w ≡ 8 * p .n → take (8 * p .n) xs ≡ s
       → o ≡ residues 65536 (table 8 (p .n) (mul i (mat (p .n) s) (matA p seedA) ⊕ mat (p .n) e))
       → o' ≡ residues 65536 (table 8 (p .n) (mat (p .n) o ⊕ (λ r' c. mat (p .n) (take w (placed p xs r)) r' i * getD (placeOf p (placed p xs r)) c 0)))

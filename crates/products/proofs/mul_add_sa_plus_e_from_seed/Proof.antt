@@ -36,7 +36,8 @@ loop-holds c = let a = c .before .before .before .before .before .before .before
       omega arith,
       refl,
       c .before .before .copy-words .ensures ∙ take-all (16 * a .p .n - m) e (omega arith)
-          ∙ product-start 65536 8 (a .p .n) (mat (a .p .n) (take m (a .noise .now))) (matA (a .p) (a .seed .now)) e l (below-drop m (a .noise .now) (λ i. omega (arith, c .before .before .before .before .before .before .before .slice-known .given i))),
+          ∙ product-start 65536 8 (a .p .n) (mat (a .p .n) (take m (a .noise .now))) (matA (a .p) (a .seed .now)) e l
+          (below-drop m (a .noise .now) (λ i. omega (arith, c .before .before .before .before .before .before .before .slice-known .given i))),
     )
 
 add-row-requires : tie.Need-add-row-requires Inv-loop μ-loop
@@ -75,7 +76,9 @@ mul-add-sa-plus-e-from-seed-spec =
     (tie.spec
     Inv-loop
     μ-loop
-    (λ c. omega (arith, c .before .before .before .pre .0 .n-high)) (λ c. omega (arith, c .before .before .before .pre .0 .n-high)) (λ c. omega (arith, c .before .before .before .pre .0 .n-high))
+    (λ c. omega (arith, c .before .before .before .pre .0 .n-high))
+    (λ c. omega (arith, c .before .before .before .pre .0 .n-high))
+    (λ c. omega (arith, c .before .before .before .pre .0 .n-high))
     (λ c. omega arith) (λ c. omega arith) (λ c. omega arith) (λ c. omega arith)
     (λ c κs. omega arith)
     loop-holds
