@@ -1,7 +1,7 @@
 -- FIPS 202, section 3.2.2: what rho's rotation is in the code's shifts, and the offsets of Algorithm 2 as a list.
 -- Assumes nothing.
-use mathlib.Core.Path.{_≡_, refl, sym, ap, ap₂, _∙_, subst}
-use mathlib.Core.List.{List, [], _∷_}
+use mathlib.Core.Path.{_≡_, refl, sym, ap, _∙_, subst}
+use mathlib.Core.List.{[], _∷_}
 use Prim.Native.Nat.{ℕ, _+_, _-_, _*_, _/_, _%_, _^_, _≤_, _<_}
 use native.Mathlib.Nat.{mul-mod-left, add-zero, mul-one, mod-eq-of-lt, div-eq-of-lt}
 use native.Mathlib.Omega.{arith}

@@ -1,6 +1,6 @@
 -- FIPS 202, section 3: KECCAK-p[1600, 24] on 25 lanes of 64 bits. Lane (x, y) stands at index x + 5 y (section 3.1.2), bit z of a lane has the weight 2^z.
 -- Assumes nothing.
-use mathlib.Core.List.{List, [], _∷_}
+use mathlib.Core.List.{List}
 use Prim.Native.Nat.{ℕ, zero, suc, _+_, _-_, _*_, _/_, _%_, _^_}
 use lib.Bits.{bitXor, bitAnd}
 use lib.ListN.{getD, set}

@@ -11,7 +11,7 @@ use Rattle.lists.proofs.Tables.{below-take, below-drop}
 use Rattle.lists.proofs.Spans.{length-mid}
 use Rattle.keccak.specs.Keccak.{keccakF}
 use Rattle.shake.specs.Shake.{addBlock, absorbBlocks}
-use Rattle.shake.specs.Sponge.{made, xorByte, xorBytes, turned, absorbByte, absorbBytes, Ready, Squeezing}
+use Rattle.shake.specs.Sponge.{made, xorByte, xorBytes, turned, absorbByte, absorbBytes, Ready}
 use Rattle.shake.specs.declared.Sponge.{Sponge}
 use Rattle.shake.proofs.Turn.{turn-full, turn-part, ready-turned, rate-turned, lanes-turned, place-turned, length-keccakF}
 use Rattle.shake.proofs.Lanes.{add-bytes}

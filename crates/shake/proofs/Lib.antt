@@ -2,9 +2,12 @@
 pub mod Length
 pub mod Turn
 pub mod Lanes
+pub mod Lane
 pub mod Add
 pub mod Absorb
 pub mod Padding
 pub mod Squeeze
+pub mod Blocks
 pub mod Words
+pub mod Put
 pub mod Uses

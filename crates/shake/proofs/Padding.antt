@@ -15,7 +15,7 @@ use Rattle.lists.proofs.Tables.{below-append}
 use Rattle.bits.proofs.Xor.{xor-assoc, xor-shl}
 use Rattle.keccak.specs.Keccak.{keccakF}
 use Rattle.shake.specs.Shake.{absorbBlocks, padding, padded}
-use Rattle.shake.specs.Sponge.{made, xorByte, xorBytes, empty, turned, absorbBytes, finished, Ready}
+use Rattle.shake.specs.Sponge.{made, xorByte, xorBytes, empty, absorbBytes, finished, Ready}
 use Rattle.shake.specs.declared.Sponge.{Sponge}
 use Rattle.shake.proofs.Turn.{turn-full}
 use Rattle.shake.proofs.Absorb.{absorb-append, absorb-within, ready-bytes, rate-bytes, lanes-bytes, place-bytes, blocks}

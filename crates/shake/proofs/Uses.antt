@@ -1,6 +1,6 @@
 -- What a caller of the sponge cites: it has absorbed a list, and more; it is finished; it gives SHAKE's bytes, in as many pieces as one likes. Assumes nothing.
 use mathlib.Core.Path.{_≡_, refl, sym, ap, _∙_, subst}
-use mathlib.Core.List.{List, [], _∷_, _++_}
+use mathlib.Core.List.{List, [], _++_}
 use Prim.Native.Nat.{ℕ, _*_, _/_, _%_, _≤_, _<_}
 use native.Mathlib.Omega.{arith}
 use lib.Dec.{lit<}
@@ -15,7 +15,7 @@ use Rattle.shake.specs.Sponge.{made, empty, absorbBytes, finished, squee
 use Rattle.shake.specs.declared.Sponge.{Sponge}
 use Rattle.shake.proofs.Absorb.{absorb-append, ready-bytes}
 use Rattle.shake.proofs.Padding.{absorbed}
-use Rattle.shake.proofs.Squeeze.{squeezed-blocks}
+use Rattle.shake.proofs.Blocks.{squeezed-blocks}
 -- and, for a sponge that is squeezed in pieces, these four of Squeeze.antt
 pub use Rattle.shake.proofs.Squeeze.{squeezed-add, after-add, squeezing-after, even-after}
 

@@ -1,6 +1,6 @@
 -- FIPS 202, section 3.2.4: `chi` is chi, row by row as `chi_row` gives them.
 -- Assumes nothing.
-use mathlib.Core.List.{List, [], _∷_, _++_}
+use mathlib.Core.List.{List, _++_}
 use Prim.Native.Nat.{ℕ}
 use lib.ListN.{getD}
 use borrow.Author.Needs.{needs}

@@ -5,7 +5,7 @@ use native.Mathlib.Omega.{arith}
 use borrow.Author.Needs.{needs}
 use Rattle.lists.proofs.Tables.{known}
 use Rattle.bits.specs.Digits.{number}
-use Rattle.shake.proofs.Add.{two-halves}
+use Rattle.shake.proofs.Lane.{two-halves}
 use Rattle.shake.proofs.lane_of.Statement.{statement}
 use Rattle.shake.proofs.lane_of.Tie as tie
 

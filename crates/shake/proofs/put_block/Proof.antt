@@ -2,7 +2,7 @@
 -- Assumes nothing.
 use native.Mathlib.Omega.{arith}
 use borrow.Author.Needs.{needs}
-use Rattle.shake.proofs.Words.{put-both}
+use Rattle.shake.proofs.Put.{put-both}
 use Rattle.shake.proofs.put_block.Statement.{statement}
 use Rattle.shake.proofs.put_block.Tie as tie
 

@@ -1,16 +1,15 @@
 -- `put_lanes` writes four words a turn.
 -- Assumes nothing.
-use mathlib.Core.Path.{_≡_, sym, ap, ap₂, _∙_}
-use mathlib.Core.List.{List}
-use Prim.Native.Nat.{ℕ, _+_, _*_, _-_, _/_, _%_, _^_, _≤_, _<_}
+use mathlib.Core.Path.{_≡_, ap, _∙_}
+use Prim.Native.Nat.{ℕ, _+_, _*_, _-_, _/_, _≤_}
 use native.Mathlib.Omega.{arith}
-use borrow.Author.Needs.{needs}
-use lib.ListN.{length, getD}
+use lib.ListN.{length}
 use Rattle.lists.specs.Lists.{tab}
 use Rattle.lists.proofs.Loops.{Upto, none, moved, all}
 use Rattle.lists.proofs.Spans.{length-part, upto-part}
 use Rattle.lists.proofs.Tables.{tab-cong}
 use Rattle.shake.specs.Sponge.{wordAt}
+use Rattle.shake.proofs.Put.{lane-word}
 use Rattle.shake.proofs.put_lanes.Statement.{statement}
 use Rattle.shake.proofs.put_lanes.Tie as tie
 
@@ -19,13 +18,6 @@ Inv-loop lanes l out₀ n t₀ out t = (t ≤ n) × (n ≡ length out₀ / 4) ×
 
 abbrev μ-loop : tie.MeasureT-loop
 μ-loop lanes l out₀ n t₀ out t = n - t
-
--- word j of lane l + t
-lane-word : (lanes : List ℕ) (l t j : ℕ) → j < 4 → getD lanes (l + t) 0 / 2 ^ (16 * j) % 65536 ≡ wordAt lanes (8 * l + 2 * (4 * t + j))
-lane-word lanes l t j h =
-    let d : l + t ≡ (8 * l + 2 * (4 * t + j)) / 8 = omega arith in
-    let m : 16 * j ≡ 8 * ((8 * l + 2 * (4 * t + j)) % 8) = omega arith in
-    ap₂ (λ (i e : ℕ). getD lanes i 0 / 2 ^ e % 65536) d m
 
 loop-again : tie.Need-loop-again Inv-loop μ-loop
 loop-again c =
