@@ -1,14 +1,25 @@
--- A slice whose parts are lent and written one after the other, from the front: `Filled done b xs ys` says that ys is xs with its first b elements
--- replaced by done.
+-- Parts that are lent from the front of a slice. `Filled done b xs ys` says that ys is xs with its first b elements replaced by done, as when parts are
+-- written one after the other.
 -- Assumes nothing.
-use mathlib.Core.Path.{_≡_, ap, _∙_}
+use mathlib.Core.Path.{_≡_, sym, ap, _∙_}
 use mathlib.Core.List.{List, _++_, append-nil}
 use Prim.Native.Nat.{ℕ, _+_, _-_, _≤_}
 use native.Mathlib.Omega.{arith}
 use lib.ListN.{length, take, drop, length-append, length-drop, drop-of-length-le}
-use lib.Seq.{drop-drop}
+use lib.Seq.{drop-drop, length-take-le}
 use borrow.Rule.Slice.PartMut.{putMid}
 use Rattle.lists.proofs.Spans.{put-next, length-mid}
+
+-- the first k elements of a list of at least as many
+pub length-front : (k : ℕ) (xs : List ℕ) → k ≤ length xs → length (take (k - 0) xs) ≡ k
+length-front k xs h = length-take-le (k - 0) xs (omega arith) ∙ omega arith
+
+-- lists that agree from a place on agree from every later one
+pub drop-later : (a b : ℕ) (xs ys : List ℕ) → a ≤ b → drop a xs ≡ drop a ys → drop b xs ≡ drop b ys
+drop-later a b xs ys l e =
+    let end : a + (b - a) ≡ b = omega arith in
+    let f : drop (a + (b - a)) xs ≡ drop (a + (b - a)) ys = sym (drop-drop (b - a) a xs) ∙ ap (drop (b - a)) e ∙ drop-drop (b - a) a ys in
+    rw end at f
 
 pub record Filled (done : List ℕ) (b : ℕ) (xs ys : List ℕ) : Type 0 where
   pub is : ys ≡ done ++ drop b xs

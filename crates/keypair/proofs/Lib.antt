@@ -1,3 +1,6 @@
 -- The laws of key generation's steps.
 pub mod Filled
-pub mod Laws
+pub mod Matrices
+pub mod PublicKey
+pub mod SecretKey
+pub mod Keypair

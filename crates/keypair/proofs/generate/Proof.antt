@@ -2,7 +2,7 @@
 -- Assumes nothing.
 use borrow.Author.Needs.{needs}
 use native.Mathlib.Omega.{arith}
-use Rattle.keypair.proofs.Laws.{secret-sized, keypair-made}
+use Rattle.keypair.proofs.Keypair.{secret-sized, keypair-made}
 use Rattle.keypair.proofs.generate.Statement.{statement}
 use Rattle.keypair.proofs.generate.Tie as tie
 

@@ -1,7 +1,7 @@
 -- `keypair::key_matrix` meets its contract: the noise is drawn, and the product of its parts is B.
 -- Assumes nothing.
 use borrow.Author.Needs.{needs}
-use Rattle.keypair.proofs.Laws.{matrix-made}
+use Rattle.keypair.proofs.Matrices.{matrix-made}
 use Rattle.keypair.proofs.key_matrix.Statement.{statement}
 use Rattle.keypair.proofs.key_matrix.Tie as tie
 

@@ -2,7 +2,7 @@
 -- Assumes nothing.
 use borrow.Author.Needs.{needs}
 use native.Mathlib.Omega.{arith}
-use Rattle.keypair.proofs.Laws.{front-is-seedA, packs-B, public-made}
+use Rattle.keypair.proofs.PublicKey.{front-is-seedA, packs-B, public-made}
 use Rattle.keypair.proofs.public_key.Statement.{statement}
 use Rattle.keypair.proofs.public_key.Tie as tie
 

@@ -3,7 +3,7 @@
 use borrow.Author.Needs.{needs}
 use mathlib.Core.Path.{ap, _∙_}
 use lib.ListN.{length}
-use Rattle.keypair.proofs.Laws.{secret-long, secret-made}
+use Rattle.keypair.proofs.SecretKey.{secret-long, secret-made}
 use Rattle.keypair.proofs.secret_key.Statement.{statement}
 use Rattle.keypair.proofs.secret_key.Tie as tie
 
