@@ -2,7 +2,8 @@
 -- Assumes nothing.
 use mathlib.Core.Path.{_≡_, sym, _∙_}
 use Rattle.frodo.specs.Keypair.{keypairLeaves}
-use Rattle.frodo.specs.One.{OneOutcome, Keypair}
+use Rattle.frodo.specs.Encaps.{encapsLeaves}
+use Rattle.frodo.specs.One.{OneOutcome, Keypair, Encaps}
 
 -- a contract that says what is left as a function of what was lent
 by-function : {Lent Left : Type 0} (f : Lent → Left) → OneOutcome (λ (i : Lent) (o : Left). o ≡ f i)
@@ -10,3 +11,6 @@ by-function f i x y e g = e ∙ sym g
 
 pub keypair-one : OneOutcome Keypair
 keypair-one = by-function keypairLeaves
+
+pub encaps-one : OneOutcome Encaps
+encaps-one = by-function encapsLeaves

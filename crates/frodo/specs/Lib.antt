@@ -1,4 +1,5 @@
 -- What each call leaves, whatever it is lent.
 pub mod Outcome
 pub mod Keypair
+pub mod Encaps
 pub mod One

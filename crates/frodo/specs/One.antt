@@ -2,10 +2,14 @@
 -- Assumes nothing.
 use mathlib.Core.Path.{_≡_}
 use Rattle.frodo.specs.Keypair.{KeypairLent, KeypairLeft, keypairLeaves}
+use Rattle.frodo.specs.Encaps.{EncapsLent, EncapsLeft, encapsLeaves}
 
 -- what the contracts say: what is left is a definition of what was lent
 abbrev pub Keypair : KeypairLent → KeypairLeft → Type 0
 Keypair i o = o ≡ keypairLeaves i
+
+abbrev pub Encaps : EncapsLent → EncapsLeft → Type 0
+Encaps i o = o ≡ encapsLeaves i
 
 -- a contract under which any two outcomes of one input coincide
 abbrev pub OneOutcome : {Lent Left : Type 0} → (Lent → Left → Type 0) → Type 0

@@ -1,9 +1,8 @@
 -- `generate_keypair_from_seed` leaves what `keypairLeaves` says, on each of its three ways out.
 -- Assumes nothing.
-use mathlib.Core.Path.{_≡_, sym, ap, _∙_}
+use mathlib.Core.Path.{_≡_, sym, _∙_}
 use borrow.Author.Needs.{needs}
 use Rattle.sets.specs.Sets.{chosen}
-use Rattle.sets.specs.Answers.{numberOf}
 use Rattle.sets.specs.declared.Chosen.the-variants.{Known}
 use Rattle.sets.specs.declared.Answer.the-variants.{Done}
 use Rattle.lengths.proofs.Shown.{keypair-shown, known-valid}
@@ -14,8 +13,14 @@ use Rattle.frodo.proofs.generate_keypair_from_seed.Tie as tie
 
 -- what the call was lent
 lent : tie.After-choose → KeypairLent
-lent c = let s = c .before .before .before .before .before .before in
+lent c =
+    let s = c .before .before .before .before .before .before in
     record { set = s .args .set; seed = s .args .seed .now; pk = s .args .pk .now; sk = s .args .sk .now; noise = s .args .noise .now; work = s .args .work .now }
+
+-- the set that was picked
+known : (c : tie.After-known-told) → chosen (lent (c .before .before .before) .set) ≡ Known (c .before .p .given .0 .0)
+unfolding lent
+known c = sym (c .before .before .before .choose .ensures) ∙ c .before .p .given .1
 
 returns : tie.Need-returns
 unfolding keypairLeaves lent
@@ -23,23 +28,18 @@ returns c =
     let i = lent (c .before .before) in
     unknown (i .set) (keypairTests i) (keypairDone i) (keypairRefused i) (sym (c .before .before .choose .ensures) ∙ c .enum-told .given .1)
 
--- the set that was picked
-known : (c : tie.After-known-told) → chosen (lent (c .before .before .before) .set) ≡ Known (c .before .p .given .0 .0)
-unfolding lent
-known c = sym (c .before .before .before .choose .ensures) ∙ c .before .p .given .1
-
 returns-2 : tie.Need-returns-2
 unfolding keypairLeaves lent
 returns-2 c =
     let i = lent (c .before .before .before .before .before .before) in
-    refusal (i .set) (keypairTests i) (keypairDone i) (keypairRefused i) (known (c .before .before .before)) (c .before .before .keypair .ensures) (λ z. c .if1 .taken (c .before .number .ensures ∙ z))
+    refusal (i .set) (keypairTests i) (keypairDone i) (keypairRefused i) (known (c .before .before .before)) (c .before .before .keypair .ensures)
+    (λ z. c .if1 .taken (c .before .number .ensures ∙ z))
 
 generate-requires : tie.Need-generate-requires
 unfolding lent
 generate-requires c κs =
     let d = c .before .before .before .before .before in
-    let k = d .before .before .before in
-    keypair-shown _ (known-valid _ _ (known k)) _ _ _ _ _ (sym (d .before .before .keypair .ensures) ∙ zero-done _ (sym (d .before .number .ensures) ∙ d .if1 .left))
+    keypair-shown _ (known-valid _ _ (known (d .before .before .before))) _ _ _ _ _ (sym (d .before .before .keypair .ensures) ∙ zero-done _ (sym (d .before .number .ensures) ∙ d .if1 .left))
 
 returns-3 : tie.Need-returns-3
 unfolding keypairLeaves lent
