@@ -63,6 +63,15 @@ fn seal(
     copy_bytes(salt, &mut ct[b..c]);
 }
 
+// seedSE' and k in a row, with room for pkh.
+fn draw_seeds(p: Params, pk: &[u8], msg: &[u8], salt: &[u8], pkh: &mut [u8], seeds: &mut [u8])
+    requires { ⌜ Valid p × (length (now pkh) ≡ p .secret) × (length (now seeds) ≡ p .seedse + p .secret) ⌝ }
+    ensures { λ _. ⌜ now (seeds .exit) ≡ draw p (pkhOf p (now (pk .entry))) (now (msg .entry)) (now (salt .entry)) ⌝ }
+{
+    hash(p, pk, pkh);
+    hash3(p, pkh, msg, salt, seeds);
+}
+
 // Both outputs from seedSE' and k, which stand in seeds in a row; then the scratch is wiped.
 fn encapsulate_from(
     p: Params,
@@ -98,28 +107,6 @@ fn encapsulate_from(
     zero_words(work, p.work);
 }
 
-// The same, with room for pkh and for seedSE' and k.
-fn encapsulate_in(
-    p: Params,
-    pk: &[u8],
-    msg: &[u8],
-    salt: &[u8],
-    pkh: &mut [u8],
-    seeds: &mut [u8],
-    ct: &mut [u8],
-    ss: &mut [u8],
-    noise: &mut [u16],
-    work: &mut [u16],
-)
-    requires { ⌜ EncapsSized p (length (now pk)) (length (now msg)) (length (now salt)) (length (now ct)) (length (now ss)) (length (now noise)) (length (now work))
-        × (length (now pkh) ≡ p .secret) × (length (now seeds) ≡ p .seedse + p .secret) ⌝ }
-    ensures { λ _. ⌜ EncapsMade p (now (pk .entry)) (now (msg .entry)) (now (salt .entry)) (now (noise .entry)) (now (work .entry)) (now (ct .exit)) (now (ss .exit)) (now (noise .exit)) (now (work .exit)) ⌝ }
-{
-    hash(p, pk, pkh);
-    hash3(p, pkh, msg, salt, seeds);
-    encapsulate_from(p, pk, msg, salt, seeds, ct, ss, noise, work);
-}
-
 // The ciphertext and the shared secret of a message and a salt under a public key. The scratch may be longer than it has to be.
 pub fn encapsulate(
     p: Params,
@@ -138,16 +125,6 @@ pub fn encapsulate(
     let b = p.seedse + a;
     let mut pkh = [0u8; 32];
     let mut seeds = [0u8; 128];
-    encapsulate_in(
-        p,
-        pk,
-        msg,
-        salt,
-        &mut pkh[0..a],
-        &mut seeds[0..b],
-        ct,
-        ss,
-        noise,
-        work,
-    );
+    draw_seeds(p, pk, msg, salt, &mut pkh[0..a], &mut seeds[0..b]);
+    encapsulate_from(p, pk, msg, salt, &seeds[0..b], ct, ss, noise, work);
 }

@@ -1,7 +1,7 @@
 -- `encaps::put_c1` meets its contract: S'A + E' is packed.
 -- Assumes nothing.
 use borrow.Author.Needs.{needs}
-use Rattle.encaps.proofs.Laws.{packing, packed-16}
+use Rattle.encaps.proofs.Packed.{packing, packed-16}
 use Rattle.encaps.proofs.put_c1.Statement.{statement}
 use Rattle.encaps.proofs.put_c1.Tie as tie
 

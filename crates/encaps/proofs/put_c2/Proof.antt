@@ -1,7 +1,7 @@
 -- `encaps::put_c2` meets its contract: S'B + E'' and the encoded message are packed.
 -- Assumes nothing.
 use borrow.Author.Needs.{needs}
-use Rattle.encaps.proofs.Laws.{packing, packed-q}
+use Rattle.encaps.proofs.Packed.{packing, packed-q}
 use Rattle.encaps.proofs.put_c2.Statement.{statement}
 use Rattle.encaps.proofs.put_c2.Tie as tie
 

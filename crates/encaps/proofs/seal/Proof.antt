@@ -6,7 +6,7 @@ use lib.ListN.{length}
 use borrow.Author.Needs.{needs}
 use borrow.Rule.Slice.PartMut.{same-len-mid}
 use Rattle.scheme.proofs.Ciphertexts.{length-ciphertext}
-use Rattle.encaps.proofs.Laws.{written, written-length, salt-room, seal-law}
+use Rattle.encaps.proofs.Written.{written, written-length, salt-room, seal-law}
 use Rattle.encaps.proofs.seal.Statement.{statement}
 use Rattle.encaps.proofs.seal.Tie as tie
 
