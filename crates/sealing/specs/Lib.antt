@@ -1,0 +1,2 @@
+-- The two matrices of a ciphertext.
+pub mod Sealing
