@@ -1,0 +1,2 @@
+-- The laws of decapsulation's steps.
+pub mod Laws

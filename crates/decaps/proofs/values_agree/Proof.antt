@@ -1,0 +1,31 @@
+-- `decaps::values_agree` meets its contract: C of c2 is unpacked in front of noise.
+-- Assumes nothing.
+use borrow.Author.Needs.{needs}
+use Rattle.decaps.proofs.Laws.{values-compared}
+use Rattle.decaps.proofs.values_agree.Statement.{statement}
+use Rattle.decaps.proofs.values_agree.Tie as tie
+
+unpack-requires : tie.Need-unpack-requires
+unpack-requires c κs = let s = c .before .before .before .before .before .before .before .before .before .before .before .before .before in record { width = s .pre .0 .d-cases; count = 8; words = search needs; bytes = search needs }
+
+returns : tie.Need-returns
+returns c =
+    let s = c .before .before .before .before .before .before .before .before .before .before .before .before .before .before .before .before .before .before .before .before in
+    values-compared _ (s .pre .0) (c .before .before .before .before .before .before .before .before .before .before .before .before .values .last .1 .1 .1 .0) (s .args .c2 .now) (s .pre .2) (c .before .before .before .before .before .before .before .before .before .before .before .before .values .ensures) (c .before .before .before .before .before .before .unpack .ensures) (c .ct-verify .ensures)
+
+pub values-agree-spec : {M : Type 1} → statement M
+values-agree-spec =
+    tie.close
+    (tie.spec
+    (λ c κs. search needs)
+    (λ c. search needs)
+    (λ c. search needs)
+    (λ c. search needs)
+    unpack-requires
+    (λ c. search needs)
+    (λ c. search needs)
+    (λ c. search needs)
+    (λ c κs. search needs)
+    (λ c. search needs)
+    (λ c. search needs)
+    returns)

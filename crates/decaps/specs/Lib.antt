@@ -1,0 +1,2 @@
+-- What decapsulation asks and leaves.
+pub mod Made

@@ -1,0 +1,3 @@
+-- The laws of opening, of the comparison and of the choice.
+pub mod Choices
+pub mod Laws

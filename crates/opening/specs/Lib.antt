@@ -1,0 +1,2 @@
+-- What opening asks, and a choice as a number.
+pub mod Opening
