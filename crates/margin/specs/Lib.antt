@@ -1,0 +1,2 @@
+-- What the margin leaves.
+pub mod Made

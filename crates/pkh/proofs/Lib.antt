@@ -1,0 +1,2 @@
+-- The laws of pkh.
+pub mod Laws

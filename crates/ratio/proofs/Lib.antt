@@ -1,0 +1,3 @@
+-- The laws of the margin's answer.
+pub mod Quotient
+pub mod Halves

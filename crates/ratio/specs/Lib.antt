@@ -1,0 +1,3 @@
+-- The margin's answer.
+pub mod Ratio
+pub mod Answered
