@@ -3,7 +3,9 @@
 use mathlib.Core.Path.{_≡_, sym, _∙_}
 use Rattle.frodo.specs.Keypair.{keypairLeaves}
 use Rattle.frodo.specs.Encaps.{encapsLeaves}
-use Rattle.frodo.specs.One.{OneOutcome, Keypair, Encaps}
+use Rattle.frodo.specs.Decaps.{decapsLeaves, decapsSecretLeaves}
+use Rattle.frodo.specs.Margin.{marginLeaves}
+use Rattle.frodo.specs.One.{OneOutcome, Keypair, Encaps, Decaps, DecapsSecret, Margins}
 
 -- a contract that says what is left as a function of what was lent
 by-function : {Lent Left : Type 0} (f : Lent → Left) → OneOutcome (λ (i : Lent) (o : Left). o ≡ f i)
@@ -14,3 +16,12 @@ keypair-one = by-function keypairLeaves
 
 pub encaps-one : OneOutcome Encaps
 encaps-one = by-function encapsLeaves
+
+pub decaps-one : OneOutcome Decaps
+decaps-one = by-function decapsLeaves
+
+pub decaps-secret-one : OneOutcome DecapsSecret
+decaps-secret-one = by-function decapsSecretLeaves
+
+pub margin-one : OneOutcome Margins
+margin-one = by-function marginLeaves

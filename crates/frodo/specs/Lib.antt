@@ -2,4 +2,7 @@
 pub mod Outcome
 pub mod Keypair
 pub mod Encaps
+pub mod Decaps
+pub mod Margin
+pub mod SetLengths
 pub mod One

@@ -1,6 +1,9 @@
 // The C interface of include/frodo.h: one thin function a call, which answers the paper's number.
-ghost use Rattle.frodo.specs.One.{Keypair, Encaps};
-ghost use Rattle.frodo_c.specs.Call.{Call};
+use ratio::Margin;
+ghost use mathlib.Core.Path.{_≡_};
+ghost use Rattle.frodo.specs.One.{Keypair, Encaps, Decaps, DecapsSecret, Margins};
+ghost use Rattle.frodo.specs.SetLengths.{lengthsFor};
+ghost use Rattle.frodo_c.specs.Call.{Call, MarginCall, flagOf, marginOf, lengthsInC};
 
 #[no_mangle]
 pub extern "C" fn frodo_generate_keypair_from_seed(
@@ -36,4 +39,116 @@ pub extern "C" fn frodo_encapsulate(
 {
     let answer = frodo::encapsulate(set, pk, message, salt, ct, ss, noise, work);
     sets::number(answer)
+}
+
+#[no_mangle]
+pub extern "C" fn frodo_decapsulate(
+    set: u32,
+    sk: &[u8],
+    ct: &[u8],
+    ss: &mut [u8],
+    message: &mut [u8],
+    noise: &mut [u16],
+    work: &mut [u16],
+) -> u32
+    ensures { λ r. ⌜ Call (λ a. Decaps
+        (record { set = set; sk = now (sk .entry); ct = now (ct .entry); ss = now (ss .entry); msg = now (message .entry); noise = now (noise .entry); work = now (work .entry) })
+        (record { answer = a; ss = now (ss .exit); msg = now (message .exit); noise = now (noise .exit); work = now (work .exit) })) r ⌝ }
+{
+    let answer = frodo::decapsulate(set, sk, ct, ss, message, noise, work);
+    sets::number(answer)
+}
+
+#[no_mangle]
+pub extern "C" fn frodo_decapsulate_shared_secret(
+    set: u32,
+    sk: &[u8],
+    ct: &[u8],
+    ss: &mut [u8],
+    noise: &mut [u16],
+    work: &mut [u16],
+) -> u32
+    ensures { λ r. ⌜ Call (λ a. DecapsSecret
+        (record { set = set; sk = now (sk .entry); ct = now (ct .entry); ss = now (ss .entry); noise = now (noise .entry); work = now (work .entry) })
+        (record { answer = a; ss = now (ss .exit); noise = now (noise .exit); work = now (work .exit) })) r ⌝ }
+{
+    let answer = frodo::decapsulate_shared_secret(set, sk, ct, ss, noise, work);
+    sets::number(answer)
+}
+
+// struct frodo_margin of the header.
+#[repr(C)]
+pub struct FrodoMargin {
+    pub refusal: u32,
+    pub size: u32,
+    pub ratio: f64,
+    pub kept: u32,
+}
+
+fn flag(x: bool) -> u32
+    ensures { λ r. ⌜ r ≡ flagOf x ⌝ }
+{
+    if x { 1 } else { 0 }
+}
+
+fn margin_of(m: Margin) -> FrodoMargin
+    ensures { λ r. ⌜ r ≡ marginOf m ⌝ }
+{
+    let answer = m.answer;
+    let kept = m.kept;
+    FrodoMargin {
+        refusal: sets::number(answer),
+        size: m.size,
+        ratio: m.ratio,
+        kept: flag(kept),
+    }
+}
+
+#[no_mangle]
+pub extern "C" fn frodo_margin(
+    set: u32,
+    seed: &[u8],
+    message: &[u8],
+    salt: &[u8],
+    noise: &mut [u16],
+    work: &mut [u16],
+) -> FrodoMargin
+    ensures { λ r. ⌜ MarginCall (λ m. Margins
+        (record { set = set; seed = now (seed .entry); msg = now (message .entry); salt = now (salt .entry); noise = now (noise .entry); work = now (work .entry) })
+        (record { margin = m; noise = now (noise .exit); work = now (work .exit) })) r ⌝ }
+{
+    let m = frodo::margin(set, seed, message, salt, noise, work);
+    margin_of(m)
+}
+
+// struct frodo_lengths of the header.
+#[repr(C)]
+pub struct FrodoLengths {
+    pub seed: u32,
+    pub pk: u32,
+    pub sk: u32,
+    pub ct: u32,
+    pub message: u32,
+    pub salt: u32,
+    pub ss: u32,
+    pub noise: u32,
+    pub work: u32,
+}
+
+#[no_mangle]
+pub extern "C" fn frodo_lengths(set: u32) -> FrodoLengths
+    ensures { λ r. ⌜ r ≡ lengthsInC (lengthsFor set) ⌝ }
+{
+    let l = frodo::lengths_of(set);
+    FrodoLengths {
+        seed: l.seed as u32,
+        pk: l.pk as u32,
+        sk: l.sk as u32,
+        ct: l.ct as u32,
+        message: l.message as u32,
+        salt: l.salt as u32,
+        ss: l.ss as u32,
+        noise: l.noise as u32,
+        work: l.work as u32,
+    }
 }
