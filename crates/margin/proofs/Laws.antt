@@ -7,7 +7,7 @@ use native.Mathlib.Omega.{arith}
 use lib.ListN.{length, take, drop, length-drop, take-append-drop}
 use lib.Seq.{take-at, drop-at, drop-drop, take-all, take-append-le, length-take-le}
 use borrow.Rule.Slice.PartMut.{putMid}
-use Rattle.lists.proofs.Spans.{length-mid, part-at, rest-at, parts-whole, drop-front}
+use Rattle.lists.proofs.Spans.{length-mid, parts-whole, drop-front}
 use Rattle.sets.specs.Sets.{Valid}
 use Rattle.sets.specs.declared.Params.{Params}
 use Rattle.codec.specs.Pack.{packed}
@@ -21,7 +21,7 @@ use Rattle.scheme.proofs.Parts.{length-hash}
 use Rattle.scheme.proofs.Keys.{length-keyNoise, length-keyS}
 use Rattle.scheme.proofs.Ciphertexts.{length-encNoise}
 use Rattle.margin.specs.Made.{keyPkh, KeyMade, CopyMade, BothMade}
-use Rattle.margin.proofs.Places.{length-front, drop-later, replaced, front, behind}
+use Rattle.margin.proofs.Places.{front, length-front, drop-later, Row, first-is, second-is, rest-is, lent-is, exchanged}
 
 -- ---- the key's noise and pkh
 
@@ -41,6 +41,17 @@ module _ (p : Params) (seed noise work : List ℕ) (sized : MatrixSized p (lengt
       let b : packed (p .d) (take (8 * p .n - 0) work') ≡ packed (p .d) (keyB p seed) =
       ap (packed (p .d)) (ap (λ (j : ℕ). take j work') (front (8 * p .n)) ∙ made .b-is) ∙ packed-words (p .d) (keyB p seed) (bits-le (sized .valid)) in
       record { pkh-is = e ∙ (λ i. hash p (ea i ++ b i) (q i)); noise-is = made .noise-is; rest-is = made .rest-is }
+
+  -- S and E, copied
+  pub copy-made : {pkh' noise' work' c : List ℕ} → KeyMade p seed noise work pkh' noise' work' → c ≡ take (16 * p .n - 0) noise'
+      → CopyMade p seed noise work pkh' noise' (c ++ drop (16 * p .n - 0) work')
+  copy-made {pkh'} {noise'} {work'} key ec =
+      let n = p .n in
+      let K = keyNoise p seed in
+      let whole : take (16 * n) (K ++ drop (16 * n) noise) ≡ K = take-at K (drop (16 * n) noise) (16 * n) (length-keyNoise p (sized .valid) seed) in
+      let tail : drop (16 * n - 0) work' ≡ drop (16 * n) work =
+      ap (λ (j : ℕ). drop j work') (front (16 * n)) ∙ drop-later (9 * n) (16 * n) work' work (omega arith) (key .rest-is) in
+      record { pkh-is = key .pkh-is; noise-is = key .noise-is; work-is = λ i. (ec ∙ ap₂ take (front (16 * n)) (key .noise-is) ∙ whole) i ++ tail i }
 
 -- ---- encapsulation's noise
 
@@ -64,52 +75,9 @@ module _ (p : Params) (valid : Valid p) (pkh msg salt seeds noise : List ℕ) (s
 
 -- ---- both
 
-module _ (p : Params) (seed noise work : List ℕ) (sized : MatrixSized p (length seed) (length noise) (length work)) where
-  -- S and E, copied
-  pub copy-made : {pkh' noise' work' c : List ℕ} → KeyMade p seed noise work pkh' noise' work' → c ≡ take (16 * p .n - 0) noise'
-      → CopyMade p seed noise work pkh' noise' (c ++ drop (16 * p .n - 0) work')
-  copy-made {pkh'} {noise'} {work'} key ec =
-      let n = p .n in
-      let K = keyNoise p seed in
-      let whole : take (16 * n) (K ++ drop (16 * n) noise) ≡ K = take-at K (drop (16 * n) noise) (16 * n) (length-keyNoise p (sized .valid) seed) in
-      let tail : drop (16 * n - 0) work' ≡ drop (16 * n) work =
-      ap (λ (j : ℕ). drop j work') (front (16 * n)) ∙ drop-later (9 * n) (16 * n) work' work (omega arith) (key .rest-is) in
-      record { pkh-is = key .pkh-is; noise-is = key .noise-is; work-is = λ i. (ec ∙ ap₂ take (front (16 * n)) (key .noise-is) ∙ whole) i ++ tail i }
-
 -- what stands behind 64 words at 16n
 noise-end : {p : Params} → Valid p → (xs ys l : List ℕ) → drop (16 * p .n) l ≡ xs ++ ys → length xs ≡ 64 → drop (p .noise) l ≡ ys
 noise-end {p} valid xs ys l e q = ap (λ (j : ℕ). drop j l) (valid .noise-is) ∙ sym (drop-drop 64 (16 * p .n) l) ∙ ap (drop 64) e ∙ drop-at xs ys 64 q
-
--- three lists in a row, the first two of 8n words
-record Row (n : ℕ) (xs ys zs l : List ℕ) : Type 0 where
-  pub is : l ≡ xs ++ (ys ++ zs)
-  pub first : length xs ≡ 8 * n
-  pub second : length ys ≡ 8 * n
-
-module _ {n : ℕ} {xs ys zs l : List ℕ} (row : Row n xs ys zs l) where
-  -- the first, the second and what follows
-  first-is : take (8 * n) l ≡ xs
-  first-is = ap (take (8 * n)) (row .is) ∙ take-at xs (ys ++ zs) (8 * n) (row .first)
-
-  second-is : take (8 * n) (drop (8 * n) l) ≡ ys
-  second-is = ap (λ (t : List ℕ). take (8 * n) (drop (8 * n) t)) (row .is) ∙ part-at xs ys zs (8 * n) (8 * n) (row .first) (row .second)
-
-  rest-is : drop (16 * n) l ≡ zs
-  rest-is =
-      let twice : 16 * n ≡ 8 * n + 8 * n = omega arith in
-      ap₂ drop twice (row .is) ∙ rest-at xs ys zs (8 * n) (8 * n) (row .first) (row .second)
-
-  -- the second is lent
-  lent-is : take (16 * n - 8 * n) (drop (8 * n) l) ≡ ys
-  lent-is = ap (λ (j : ℕ). take j (drop (8 * n) l)) (behind n) ∙ second-is
-
-  -- and another put in its place
-  exchanged : (vs : List ℕ) {ws : List ℕ} → ws ≡ vs → length vs ≡ 8 * n → Row n xs vs zs (putMid (8 * n) (16 * n - 8 * n) l ws)
-  exchanged vs e q = record {
-    is = (λ i. putMid (8 * n) (behind n i) (row .is i) (e i)) ∙ replaced xs ys zs vs (8 * n) (8 * n) (row .first) (row .second);
-    first = row .first;
-    second = q;
-  }
 
 module _ (p : Params) (seed msg salt noise work : List ℕ) (valid : Valid p) {pkh' noise1 work1 : List ℕ} (key : CopyMade p seed noise work pkh' noise1 work1) where
   -- the noise drawn by encapsulation: S', E', E''

@@ -1,6 +1,6 @@
 -- The noise of a sealed message and its margin (document 01, module 11), as laws of lists: what the products and the measure leave is what the scheme states.
 -- Assumes nothing.
-use mathlib.Core.Path.{_≡_, sym, ap, ap₂, _∙_, subst}
+use mathlib.Core.Path.{_≡_, sym, ap, _∙_, subst}
 use mathlib.Core.List.{List, _++_, append-assoc}
 use Prim.Native.Nat.{ℕ, _+_, _*_, _-_, _≤_}
 use native.Mathlib.Nat.{add-sub-cancel-left}
@@ -9,7 +9,7 @@ use lib.ListN.{length, take, drop, replicate}
 use lib.Seq.{take-at, take-add, length-take-le}
 use borrow.Rule.Slice.PartMut.{putMid}
 use Rattle.lists.specs.Lists.{residues, Below, wiped}
-use Rattle.lists.proofs.Spans.{length-mid, part-at, put-at, put-after, drop-front}
+use Rattle.lists.proofs.Spans.{length-mid, put-at, put-after, drop-front}
 use Rattle.algebra.specs.Congruence.{minus}
 use Rattle.algebra.specs.Matrix.{Matrix, mat, matT, mul, _⊕_, table}
 use Rattle.algebra.proofs.Congruences.{minus-same}
@@ -25,7 +25,7 @@ use Rattle.scheme.specs.Margin.{largestSize, keptBy, noiseTable}
 use Rattle.ratio.specs.Answered.{Measured}
 use Rattle.ratio.specs.declared.Margin.{Margin}
 use Rattle.margin.specs.Made.{BothMade, sealingPart, keyPart, NoiseMade, MarginMade}
-use Rattle.margin.proofs.Places.{front, behind, drop-later}
+use Rattle.margin.proofs.Places.{front, behind, drop-later, Row, first-is, second-is}
 
 -- ---- the products and their difference
 
@@ -51,11 +51,11 @@ module _ (p : Params) (valid : Valid p) (noise work : List ℕ) (scratch : Scrat
   abbrev gap : ℕ
   gap = 16 * p .n + 64 - 16 * p .n
 
-  -- work with S'E + E'' behind S and E'
+  -- work with v behind S and E'
   abbrev placed : List ℕ → List ℕ
   placed v = putMid (16 * p .n) gap work v
 
-  -- which stay
+  -- in which these stay
   same-key : (v : List ℕ) → keyPart p (placed v) ≡ keyPart p work
   same-key v =
       let n = p .n in
@@ -63,12 +63,12 @@ module _ (p : Params) (valid : Valid p) (noise work : List ℕ) (scratch : Scrat
       let E' = take (8 * n) (drop (8 * n) work) in
       let rest = v ++ drop gap (drop (16 * n) work) in
       let twice : 16 * n ≡ 8 * n + 8 * n = omega arith in
-      let is : placed v ≡ S ++ (E' ++ rest) = ap (λ (t : List ℕ). t ++ rest) (ap (λ (j : ℕ). take j work) twice ∙ take-add (8 * n) (8 * n) work) ∙ append-assoc S E' rest in
-      let lS : length S ≡ 8 * n = length-take-le (8 * n) work (omega (arith, valid .work-is, scratch .work-room)) in
-      let lE' : length E' ≡ 8 * n = length-mid (8 * n) (8 * n) work (omega (arith, valid .work-is, scratch .work-room)) in
-      let is-S : take (8 * n) (placed v) ≡ S = ap (take (8 * n)) is ∙ take-at S (E' ++ rest) (8 * n) lS in
-      let is-E' : take (8 * n) (drop (8 * n) (placed v)) ≡ E' = ap (λ (t : List ℕ). take (8 * n) (drop (8 * n) t)) is ∙ part-at S E' rest (8 * n) (8 * n) lS lE' in
-      λ i. mul n (mat n (is-E' i)) (matT n (is-S i))
+      let row : Row n S E' rest (placed v) = record {
+        is = ap (λ (t : List ℕ). t ++ rest) (ap (λ (j : ℕ). take j work) twice ∙ take-add (8 * n) (8 * n) work) ∙ append-assoc S E' rest;
+        first = length-take-le (8 * n) work (omega (arith, valid .work-is, scratch .work-room));
+        second = length-mid (8 * n) (8 * n) work (omega (arith, valid .work-is, scratch .work-room));
+      } in
+      λ i. mul n (mat n (second-is row i)) (matT n (first-is row i))
 
   -- the difference of the two, each mod q
   pub noise-made : {v w d : List ℕ} → v ≡ residues (p .q) (table 8 8 (sealingPart p noise)) → w ≡ residues (p .q) (table 8 8 (keyPart p (placed v)))
@@ -108,7 +108,6 @@ module _ (p : Params) (valid : Valid p) (seed msg salt noise work : List ℕ) {n
 
   -- words mod q
   pub noise-below : Below (p .q) (take 64 noise2)
-  unfolding noiseOf
   noise-below = subst (λ (l : List ℕ). Below (p .q) l) (sym (made .is)) (below-sub valid _ _)
 
   -- what the call answers and leaves
