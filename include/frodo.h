@@ -64,12 +64,6 @@ struct frodo_margin {
 struct frodo_margin frodo_margin(uint32_t set, const uint8_t *seed, size_t seed_len, const uint8_t *message, size_t message_len,
     const uint8_t *salt, size_t salt_len, uint16_t *noise, size_t noise_len, uint16_t *work, size_t work_len);
 
-/* The lengths of a set, all 0 where the number is no set. */
-struct frodo_lengths {
-    uint32_t seed, public_key, secret_key, ciphertext, message, salt, shared_secret, noise_words, work_words;
-};
-struct frodo_lengths frodo_lengths(uint32_t set);
-
 #ifdef __cplusplus
 }
 #endif

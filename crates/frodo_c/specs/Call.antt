@@ -6,9 +6,7 @@ use Prim.Native.Nat.{ℕ}
 use Rattle.sets.specs.Answers.{numberOf}
 use Rattle.sets.specs.declared.Answer.{Answer}
 use Rattle.ratio.specs.declared.Margin.{Margin}
-use Rattle.frodo.specs.declared.SetLengths.{SetLengths}
 use Rattle.frodo_c.specs.declared.FrodoMargin.{FrodoMargin}
-use Rattle.frodo_c.specs.declared.FrodoLengths.{FrodoLengths}
 
 pub record Call (left : Answer → Type 0) (r : ℕ) : Type 0 where
   pub answer : Answer
@@ -28,17 +26,3 @@ pub record MarginCall (left : Margin → Type 0) (r : FrodoMargin) : Type 0 wher
   pub margin : Margin
   pub is : r ≡ marginOf margin
   pub holds : left margin
-
--- lengths as struct frodo_lengths has them
-abbrev pub lengthsInC : SetLengths → FrodoLengths
-lengthsInC l = record {
-  seed = l .seed;
-  pk = l .pk;
-  sk = l .sk;
-  ct = l .ct;
-  message = l .message;
-  salt = l .salt;
-  ss = l .ss;
-  noise = l .noise;
-  work = l .work;
-}

@@ -2,8 +2,7 @@
 use ratio::Margin;
 ghost use mathlib.Core.Path.{_≡_};
 ghost use Rattle.frodo.specs.One.{Keypair, Encaps, Decaps, DecapsSecret, Margins};
-ghost use Rattle.frodo.specs.SetLengths.{lengthsFor};
-ghost use Rattle.frodo_c.specs.Call.{Call, MarginCall, flagOf, marginOf, lengthsInC};
+ghost use Rattle.frodo_c.specs.Call.{Call, MarginCall, flagOf, marginOf};
 
 #[no_mangle]
 pub extern "C" fn frodo_generate_keypair_from_seed(
@@ -119,36 +118,4 @@ pub extern "C" fn frodo_margin(
 {
     let m = frodo::margin(set, seed, message, salt, noise, work);
     margin_of(m)
-}
-
-// struct frodo_lengths of the header.
-#[repr(C)]
-pub struct FrodoLengths {
-    pub seed: u32,
-    pub pk: u32,
-    pub sk: u32,
-    pub ct: u32,
-    pub message: u32,
-    pub salt: u32,
-    pub ss: u32,
-    pub noise: u32,
-    pub work: u32,
-}
-
-#[no_mangle]
-pub extern "C" fn frodo_lengths(set: u32) -> FrodoLengths
-    ensures { λ r. ⌜ r ≡ lengthsInC (lengthsFor set) ⌝ }
-{
-    let l = frodo::lengths_of(set);
-    FrodoLengths {
-        seed: l.seed as u32,
-        pk: l.pk as u32,
-        sk: l.sk as u32,
-        ct: l.ct as u32,
-        message: l.message as u32,
-        salt: l.salt as u32,
-        ss: l.ss as u32,
-        noise: l.noise as u32,
-        work: l.work as u32,
-    }
 }
