@@ -11,6 +11,8 @@ test:
 bench:
 	rt staticlib bench_c
 	tests/bench/run
+	BENCH_ARCHIVE=$(CURDIR)/target/staticlib tests/oracle/build
+	build/oracle/target/release/rows
 
 oracle:
 	tests/oracle/build
