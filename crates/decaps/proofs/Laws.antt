@@ -22,7 +22,7 @@ use Rattle.scheme.specs.Encaps.{pkSeedA, draw, encSeedSE, encNoise, encB, encC}
 use Rattle.scheme.specs.Decaps.{skPk, skPkh, ctSalt, ctB, ctC, agrees, decapsK, decapsMessage, decapsSecret}
 use Rattle.scheme.proofs.Parts.{d-pos, length-hash}
 use Rattle.sealing.specs.Sealing.{maskNoise, maskB, maskC, Masked}
-use Rattle.sealing.proofs.Laws.{drop-of-take}
+use Rattle.sealing.proofs.MatrixB.{drop-of-take}
 use Rattle.sealing.proofs.Names.{enc-noise, enc-B, enc-C}
 use Rattle.opening.specs.Opening.{bit}
 use Rattle.opening.proofs.Choices.{bit-test, bit-le, bit-and}

@@ -1,2 +1,3 @@
-pub mod Laws
+pub mod MatrixB
+pub mod MatrixC
 pub mod Names

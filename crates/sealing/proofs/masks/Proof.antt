@@ -1,7 +1,7 @@
 -- `sealing::masks` meets its contract: the noise is drawn, and its first 16n words are lent to the product.
 -- Assumes nothing.
 use borrow.Author.Needs.{needs}
-use Rattle.sealing.proofs.Laws.{masks-law}
+use Rattle.sealing.proofs.MatrixB.{masks-law}
 use Rattle.sealing.proofs.masks.Statement.{statement}
 use Rattle.sealing.proofs.masks.Tie as tie
 

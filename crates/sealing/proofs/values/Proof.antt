@@ -2,7 +2,7 @@
 -- Assumes nothing.
 use borrow.Author.Needs.{needs}
 use Rattle.scheme.proofs.Parts.{coding}
-use Rattle.sealing.proofs.Laws.{values-law}
+use Rattle.sealing.proofs.MatrixC.{values-law}
 use Rattle.sealing.proofs.values.Statement.{statement}
 use Rattle.sealing.proofs.values.Tie as tie
 

@@ -1,0 +1,2 @@
+-- What encapsulation leaves.
+pub mod Made
