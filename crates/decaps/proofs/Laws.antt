@@ -52,13 +52,15 @@ module _ (p : Params) (valid : Valid p) (noise : List ℕ) where
       }
 
   -- S'*B + E'' + the encoded message against C of c2, which is put in front
-  pub values-compared : (c2 : List ℕ) {made work words : List ℕ} {same : ℕ} → length c2 ≡ p .d * 8 → work ≡ made → words ≡ unpacked (p .d) c2
-      → same ≡ bit (equal work (take 64 (words ++ drop 64 noise))) → same ≡ bit (equal made (unpacked (p .d) c2))
-  values-compared c2 {words = words} lc ev eu es =
+  pub values-compared : (b c2 msg drawn : List ℕ) {work words : List ℕ} {same : ℕ} → length c2 ≡ p .d * 8
+      → (let made = residues (p .q) (maskC p b msg (take (8 * p .n) drawn) (drop (16 * p .n) drawn)) in
+      work ≡ made → words ≡ unpacked (p .d) c2 → same ≡ bit (equal work (take 64 (words ++ drop 64 noise))) → same ≡ bit (equal made (unpacked (p .d) c2)))
+  values-compared b c2 msg drawn {words = words} lc ev eu es =
       let lw : length words ≡ 64 = ap length eu ∙ length-unpacked (p .d) 8 (d-pos p valid) c2 lc in
       es ∙ ap₂ (λ (x y : List ℕ). bit (equal x y)) ev (take-at words (drop 64 noise) 64 lw ∙ eu)
 
 module _ (p : Params) (sk ct msg noise work : List ℕ) (sized : AgainSized p (length sk) (length ct) (length msg) (length noise) (length work)) where
+  -- the set is valid
   v : Valid p
   v = sized .valid
 
@@ -149,6 +151,11 @@ module _ (p : Params) (sk ct msg noise work seeds : List ℕ) (sized : AgainSize
       let K = take-all (p .seedse + p .secret - p .seedse) (drop (p .seedse) seeds) (omega (arith, long, length-drop (p .seedse) seeds)) ∙ ap (drop (p .seedse)) is-drawn in
       let t = ap (λ (x : ℕ). eqb x 1) ec ∙ bit-test (agrees p sk ct msg) in
       es ∙ (λ i. hash p (ct ++ cond (t i) (K i) (take (k0 i) sk)) (el i))
+
+-- what was chosen is hashed behind the ciphertext
+pub chosen-law : (p : Params) (choice : ℕ) (k s ct : List ℕ) (l : ℕ) {chosen ss : List ℕ} → chosen ≡ cond (eqb choice 1) k s → ss ≡ hash p (ct ++ chosen) l
+    → ss ≡ hash p (ct ++ cond (eqb choice 1) k s) l
+chosen-law p choice k s ct l ec es = es ∙ ap (λ (x : List ℕ). hash p (ct ++ x) l) ec
 
 -- the secret goes with the message that was opened
 pub opened-law : (p : Params) (sk ct : List ℕ) {msg ss : List ℕ} → msg ≡ decapsMessage p sk ct → ss ≡ hash p (ct ++ decapsK p sk ct msg) (p .secret)

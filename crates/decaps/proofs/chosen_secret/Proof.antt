@@ -1,11 +1,9 @@
 -- `decaps::chosen_secret` meets its contract.
 -- Assumes nothing.
 use borrow.Author.Needs.{needs}
-use mathlib.Core.List.{List, _++_}
-use mathlib.Core.Path.{ap, _∙_}
-use Prim.Native.Nat.{ℕ}
+use native.Mathlib.Omega.{arith}
 use lib.ListN.{length}
-use Rattle.scheme.specs.Parts.{hash}
+use Rattle.decaps.proofs.Laws.{chosen-law}
 use Rattle.decaps.proofs.chosen_secret.Statement.{statement}
 use Rattle.decaps.proofs.chosen_secret.Tie as tie
 
@@ -15,6 +13,5 @@ chosen-secret-spec =
     (tie.spec
     (λ c κs. search needs)
     (λ c κs. search needs)
-    (λ c. search needs)
-    (λ c. search needs)
-    (λ c. let x = c .before .before .before .before .before .before .before .before .before .before .before .before .before .before .args in c .before .before .hash2 .ensures ∙ ap (λ (l : List ℕ). hash (x .p) (x .ct .now ++ l) (length (x .ss .now))) (c .before .before .before .before .before .before .before .ct-select .ensures)))
+    (λ c. omega arith) (λ c. omega arith)
+    (λ c. let x = c .before .before .before .before .before .before .before .before .before .before .before .before .before .before .args in chosen-law _ (x .choice) (x .k .now) (x .s .now) (x .ct .now) (length (x .ss .now)) (c .before .before .before .before .before .before .before .ct-select .ensures) (c .before .before .hash2 .ensures)))

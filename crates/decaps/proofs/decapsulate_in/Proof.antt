@@ -1,6 +1,7 @@
 -- `decaps::decapsulate_in` meets its contract: the secret goes with the message that was opened.
 -- Assumes nothing.
 use borrow.Author.Needs.{needs}
+use native.Mathlib.Omega.{arith}
 use Rattle.decaps.proofs.Laws.{opened-law}
 use Rattle.decaps.proofs.decapsulate_in.Statement.{statement}
 use Rattle.decaps.proofs.decapsulate_in.Tie as tie
@@ -14,20 +15,10 @@ pub decapsulate-in-spec : {M : Type 1} → statement M
 decapsulate-in-spec =
     tie.close
     (tie.spec
-    (λ c. search needs)
-    (λ c. search needs)
-    (λ c. search needs)
-    (λ c. search needs)
+    (λ c. omega arith) (λ c. omega arith) (λ c. omega arith) (λ c. omega arith)
     (λ c κs. search needs)
-    (λ c. search needs)
-    (λ c. search needs)
-    (λ c. search needs)
-    (λ c. search needs)
-    (λ c. search needs)
-    (λ c. search needs)
+    (λ c. omega arith) (λ c. omega arith) (λ c. omega arith) (λ c. omega arith) (λ c. omega arith)
+    (λ c. omega arith)
     secret-of-requires
-    (λ c. search needs)
-    (λ c. search needs)
-    (λ c. search needs)
-    (λ c. search needs)
+    (λ c. omega arith) (λ c. omega arith) (λ c. omega arith) (λ c. omega arith)
     (λ c. let x = c .before .before .before .before .before .before .before .before .before .before .before .before .before .before .before .before .before .before .before .before .before .before .before .before .before .before .before .before .before .before .before .before .args in opened-law _ (x .sk .now) (x .ct .now) (c .before .before .before .before .before .before .before .before .before .before .before .before .before .before .before .before .before .before .before .before .before .open-message .ensures) (c .before .before .before .before .before .before .before .before .secret-of .ensures)))

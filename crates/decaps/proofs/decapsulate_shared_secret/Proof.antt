@@ -1,6 +1,7 @@
 -- `decaps::decapsulate_shared_secret` meets its contract.
 -- Assumes nothing.
 use borrow.Author.Needs.{needs}
+use native.Mathlib.Omega.{arith}
 use Rattle.decaps.proofs.decapsulate_shared_secret.Statement.{statement}
 use Rattle.decaps.proofs.decapsulate_shared_secret.Tie as tie
 
@@ -13,11 +14,7 @@ pub decapsulate-shared-secret-spec : {M : Type 1} → statement M
 decapsulate-shared-secret-spec =
     tie.close
     (tie.spec
-    (λ c. search needs)
-    (λ c. search needs)
-    (λ c. search needs)
+    (λ c. omega arith) (λ c. omega arith) (λ c. omega arith)
     decapsulate-requires
-    (λ c. search needs)
-    (λ c. search needs)
-    (λ c. search needs)
+    (λ c. omega arith) (λ c. omega arith) (λ c. omega arith)
     (λ c. search needs))

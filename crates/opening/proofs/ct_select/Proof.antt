@@ -32,12 +32,9 @@ ct-select-spec =
     Inv-loop
     μ-loop
     (λ c. (omega arith, refl, none _ _))
-    (λ c. omega arith)
-    (λ c. omega arith)
+    (λ c. omega arith) (λ c. omega arith)
     (λ c κs. omega arith)
-    (λ c. omega arith)
-    (λ c. omega arith)
-    (λ c. omega arith)
+    (λ c. omega arith) (λ c. omega arith) (λ c. omega arith)
     loop-again
     (λ c. c .before .loop .inv .2 .len)
     returns)

@@ -24,6 +24,5 @@ decode-difference-spec =
     (λ c κs. search needs)
     (λ c κs. search needs)
     (λ c κs. (coding _ (c .before .before .before .before .before .before .before .before .before .before .before .before .before .before .before .pre .0), search needs, search needs))
-    (λ c. search needs)
-    (λ c. search needs)
+    (λ c. search needs) (λ c. search needs)
     returns)
