@@ -1,4 +1,4 @@
-// The C interface of include/frodo.h: one thin function a call, which answers the paper's number.
+// The C interface: one thin function a call, which answers the paper's number. A slice is a pointer and a length in elements.
 use ratio::Margin;
 ghost use mathlib.Core.Path.{_≡_};
 ghost use Rattle.frodo.specs.One.{Keypair, Encaps, Decaps, DecapsSecret, Margins};
@@ -75,7 +75,7 @@ pub extern "C" fn frodo_decapsulate_shared_secret(
     sets::number(answer)
 }
 
-// struct frodo_margin of the header.
+// struct frodo_margin of the C interface.
 #[repr(C)]
 pub struct FrodoMargin {
     pub refusal: u32,
