@@ -1,12 +1,28 @@
 # make test     the whole gate: layout, proofs, must-fail edits, replayed answers; its last line is the prover's 'N passed, 0 failed'
+# make lib      dist/libfrodo_c.a and dist/frodo.h, for C and Rust to link
+# make host     the Rust crate's tests and the C example, over dist/
 # make bench    speed beside other code, as ratios
 # make oracle   builds frodo-kem-rs from its own source (FRODO_KEM_RS names its folder), for the lists in tests/lists
 # make lists    makes the lists of answers again: wants the oracle
-.PHONY: test bench oracle lists clean
+.PHONY: test lib host bench oracle lists clean
+
+CFLAGS = -std=c11 -D_GNU_SOURCE -O2 -Wall -Wextra -Werror
 
 test:
 	rt fmt --check
 	rt ci
+
+lib:
+	rt staticlib frodo_c
+	mkdir -p dist
+	cp target/staticlib/libfrodo_c.a include/frodo.h dist/
+	tests/lib/check dist/libfrodo_c.a
+
+host: lib
+	cd host/rust && CARGO_TARGET_DIR=$(CURDIR)/build/rust cargo test --offline --quiet
+	mkdir -p build
+	$(CC) $(CFLAGS) -I dist examples/c/seal.c dist/libfrodo_c.a -o build/seal
+	build/seal
 
 bench:
 	rt staticlib bench_c

@@ -1,0 +1,2 @@
+-- That the lengths fit into C's numbers.
+pub mod Fits
