@@ -34,7 +34,7 @@ oracle:
 	tests/oracle/build
 
 lists: oracle
-	for list in shake_edges parts products; do python3 tests/lists/$$list.py || exit 1; done
+	for list in shake_edges parts products kem; do python3 tests/lists/$$list.py || exit 1; done
 
 clean:
 	rm -rf target build dist
