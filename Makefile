@@ -1,12 +1,39 @@
-# make test     the whole gate: layout, proofs, must-fail edits, replayed answers; its last line is the prover's 'N passed, 0 failed'
-# make bench    speed beside other code, as ratios
-# make oracle   builds frodo-kem-rs from its own source (FRODO_KEM_RS names its folder), for the lists in tests/lists
-# make lists    makes the lists of answers again: wants the oracle
-.PHONY: test bench oracle lists clean
+# make test           the whole gate: layout, the tests on the library below, then proofs, must-fail edits and replayed answers; its last line is the
+#                     prover's 'N passed, 0 failed'
+# make lib            the library: dist/libfrodo_c.a and dist/frodo.h
+# make stack          the stack that each call takes
+# make signal         a process with a broken heap seals its report in a signal handler; another process opens it
+# make hostile        guard pages, wrong lengths and sets, unset memory
+# make side-by-side   every call beside frodo-kem-rs, byte for byte (FRODO_KEM_RS names its folder, SEEDS the number of seeds a set)
+# make bench          speed beside other code, as ratios
+# make oracle         builds frodo-kem-rs from its own source (FRODO_KEM_RS names its folder), for the lists in tests/lists
+# make lists          makes the lists of answers again: wants the oracle
+.PHONY: test layout lib stack signal hostile side-by-side bench oracle lists clean
+.NOTPARALLEL:
 
-test:
-	rt fmt --check
+CFLAGS = -std=c11 -O2 -g -Wall -Wextra -Werror
+# Bound when the program starts: a memcpy that is bound at its first use runs the dynamic linker on the caller's stack.
+LDFLAGS = -Wl,-z,now
+
+test: layout stack
 	rt ci
+
+layout:
+	rt fmt --check
+
+lib:
+	rt staticlib frodo_c
+	mkdir -p dist
+	cp target/staticlib/libfrodo_c.a include/frodo.h dist/
+
+build/%: tests/%.c tests/lengths.h dist/libfrodo_c.a dist/frodo.h
+	mkdir -p $(@D)
+	$(CC) $(CFLAGS) -Idist $< dist/libfrodo_c.a $(LDFLAGS) -o $@
+
+dist/libfrodo_c.a dist/frodo.h: lib
+
+stack: build/stack/stack
+	build/stack/stack
 
 bench:
 	rt staticlib bench_c
