@@ -15,7 +15,7 @@ CFLAGS = -std=c11 -O2 -g -Wall -Wextra -Werror
 # Bound when the program starts: a memcpy that is bound at its first use runs the dynamic linker on the caller's stack.
 LDFLAGS = -Wl,-z,now
 
-test: layout stack hostile
+test: layout stack signal hostile
 	rt ci
 
 layout:
@@ -34,6 +34,9 @@ dist/libfrodo_c.a dist/frodo.h: lib
 
 stack: build/stack/stack
 	build/stack/stack
+
+signal: build/signal/signal
+	build/signal/signal
 
 hostile: build/hostile/hostile
 	build/hostile/hostile
