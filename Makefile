@@ -4,7 +4,7 @@
 # make stack          the stack that each call takes
 # make signal         a process with a broken heap seals its report in a signal handler; another process opens it
 # make hostile        guard pages, wrong lengths and sets, unset memory
-# make side-by-side   every call beside frodo-kem-rs, byte for byte (FRODO_KEM_RS names its folder, SEEDS the number of seeds a set)
+# make side-by-side   every call beside frodo-kem-rs, byte for byte (FRODO_KEM_RS names its folder, SEEDS the number of seeds a set, 200)
 # make bench          speed beside other code, as ratios
 # make oracle         builds frodo-kem-rs from its own source (FRODO_KEM_RS names its folder), for the lists in tests/lists
 # make lists          makes the lists of answers again: wants the oracle
@@ -15,7 +15,7 @@ CFLAGS = -std=c11 -O2 -g -Wall -Wextra -Werror
 # Bound when the program starts: a memcpy that is bound at its first use runs the dynamic linker on the caller's stack.
 LDFLAGS = -Wl,-z,now
 
-test: layout stack signal hostile
+test: layout stack signal hostile side-by-side
 	rt ci
 
 layout:
@@ -41,6 +41,9 @@ signal: build/signal/signal
 hostile: build/hostile/hostile
 	build/hostile/hostile
 	tests/hostile/unset
+
+side-by-side: dist/libfrodo_c.a
+	tests/oracle/side-by-side
 
 bench:
 	rt staticlib bench_c
