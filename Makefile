@@ -45,11 +45,12 @@ hostile: build/hostile/hostile
 side-by-side: dist/libfrodo_c.a
 	tests/oracle/side-by-side
 
-bench:
+bench: dist/libfrodo_c.a
 	rt staticlib bench_c
 	tests/bench/run
-	BENCH_ARCHIVE=$(CURDIR)/target/staticlib tests/oracle/build
+	BENCH_ARCHIVE=$(CURDIR)/target/staticlib FRODO_ARCHIVE=$(CURDIR)/dist tests/oracle/build
 	build/oracle/target/release/rows
+	build/oracle/target/release/calls
 
 oracle:
 	tests/oracle/build
