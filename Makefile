@@ -1,16 +1,33 @@
-# make test     the whole gate: layout, proofs, must-fail edits, replayed answers; its last line is the prover's 'N passed, 0 failed'
-# make lib      dist/libfrodo_c.a and dist/frodo.h, for C and Rust to link
-# make host     the Rust crate's tests and the C example, over dist/
-# make bench    speed beside other code, as ratios
-# make oracle   builds frodo-kem-rs from its own source (FRODO_KEM_RS names its folder), for the lists in tests/lists
-# make lists    makes the lists of answers again: wants the oracle
-.PHONY: test lib host bench oracle lists clean
+# make test           the whole gate: layout, proofs, must-fail edits, replayed answers, then the tests on the library below; its last line is the prover's
+#                     'N passed, 0 failed'
+# make lib            the library: dist/libfrodo_c.a and dist/frodo.h
+# make host           the Rust crate's tests, the C example and README's
+# make stack          the stack that each call takes
+# make signal         a process with a broken heap seals its report in a signal handler; another process opens it
+# make hostile        guard pages, wrong lengths and sets, unset memory
+# make side-by-side   every call beside frodo-kem-rs, byte for byte (FRODO_KEM_RS names its folder, SEEDS the number of seeds a set, 200)
+# make bench          speed beside other code, as ratios
+# make oracle         builds frodo-kem-rs from its own source (FRODO_KEM_RS names its folder), for the lists in tests/lists
+# make lists          makes the lists of answers again: wants the oracle
+.PHONY: test layout prove lib host stack signal hostile side-by-side bench oracle lists clean
+.NOTPARALLEL:
 
-CFLAGS = -std=c11 -D_GNU_SOURCE -O2 -Wall -Wextra -Werror
+SHELL = /bin/bash -o pipefail
+CFLAGS = -std=c11 -D_GNU_SOURCE -O2 -g -Wall -Wextra -Werror
+# Bound when the program starts: a memcpy that is bound at its first use runs the dynamic linker on the caller's stack.
+LDFLAGS = -Wl,-z,now
 
-test:
+test: layout prove host stack signal hostile side-by-side
+	@echo "the library's tests have passed; the prover had said:"
+	@tail -n 1 build/ci.log
+
+layout:
 	rt fmt --check
-	rt ci
+
+# From nothing; what it proved is then compiled and not proved again.
+prove:
+	mkdir -p build
+	rt ci | tee build/ci.log
 
 lib:
 	rt staticlib frodo_c
@@ -18,17 +35,38 @@ lib:
 	cp target/staticlib/libfrodo_c.a include/frodo.h dist/
 	tests/lib/check dist/libfrodo_c.a
 
+build/%: tests/%.c tests/lengths.h dist/libfrodo_c.a dist/frodo.h
+	mkdir -p $(@D)
+	$(CC) $(CFLAGS) -Idist $< dist/libfrodo_c.a $(LDFLAGS) -o $@
+
+dist/libfrodo_c.a dist/frodo.h: lib
+
 host: lib
 	cd host/rust && CARGO_TARGET_DIR=$(CURDIR)/build/rust cargo test --offline --quiet
 	mkdir -p build
-	$(CC) $(CFLAGS) -I dist examples/c/seal.c dist/libfrodo_c.a -o build/seal
+	$(CC) $(CFLAGS) -Idist examples/c/seal.c dist/libfrodo_c.a $(LDFLAGS) -o build/seal
 	build/seal
+	tests/readme/run
 
-bench:
+stack: build/stack/stack
+	build/stack/stack
+
+signal: build/signal/signal
+	build/signal/signal
+
+hostile: build/hostile/hostile
+	build/hostile/hostile
+	tests/hostile/unset
+
+side-by-side: dist/libfrodo_c.a
+	tests/oracle/side-by-side
+
+bench: dist/libfrodo_c.a
 	rt staticlib bench_c
 	tests/bench/run
-	BENCH_ARCHIVE=$(CURDIR)/target/staticlib tests/oracle/build
+	BENCH_ARCHIVE=$(CURDIR)/target/staticlib FRODO_ARCHIVE=$(CURDIR)/dist tests/oracle/build
 	build/oracle/target/release/rows
+	build/oracle/target/release/calls
 
 oracle:
 	tests/oracle/build

@@ -1,6 +1,9 @@
 //! The crate's types by document 01's set numbers, and hex text for the line protocol.
 pub use frodo_kem_rs::hazmat::*;
 
+#[cfg(frodo_archive)]
+pub mod ours;
+
 /// Runs `$body` with the type `$kem` of set `$set`, or gives `$other` for a number that is no set.
 #[macro_export]
 macro_rules! with_set {
