@@ -1,10 +1,10 @@
--- `decaps::masks_agree` meets its contract: S'*A + E' is masked, and B' of c1 is unpacked where E' was.
+-- `agreement::masks_agree` meets its contract: S'*A + E' is masked, and B' of c1 is unpacked where E' was.
 -- Assumes nothing.
 use borrow.Author.Needs.{needs}
 use native.Mathlib.Omega.{arith}
-use Rattle.decaps.proofs.Laws.{masks-compared}
-use Rattle.decaps.proofs.masks_agree.Statement.{statement}
-use Rattle.decaps.proofs.masks_agree.Tie as tie
+use Rattle.agreement.proofs.Laws.{masks-compared}
+use Rattle.agreement.proofs.masks_agree.Statement.{statement}
+use Rattle.agreement.proofs.masks_agree.Tie as tie
 
 unpack-requires : tie.Need-unpack-requires
 unpack-requires c κs = let s = c .before .before .before .before .before .before .before .before .before .before .before .before .before .before .before .before .before .before .before .before in record { width = s .pre .0 .d-cases; count = s .args .p .n; words = search needs; bytes = search needs }

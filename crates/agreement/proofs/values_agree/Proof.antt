@@ -1,10 +1,10 @@
--- `decaps::values_agree` meets its contract: C of c2 is unpacked in front of noise.
+-- `agreement::values_agree` meets its contract: C of c2 is unpacked in front of noise.
 -- Assumes nothing.
 use borrow.Author.Needs.{needs}
 use native.Mathlib.Omega.{arith}
-use Rattle.decaps.proofs.Laws.{values-compared}
-use Rattle.decaps.proofs.values_agree.Statement.{statement}
-use Rattle.decaps.proofs.values_agree.Tie as tie
+use Rattle.agreement.proofs.Laws.{values-compared}
+use Rattle.agreement.proofs.values_agree.Statement.{statement}
+use Rattle.agreement.proofs.values_agree.Tie as tie
 
 unpack-requires : tie.Need-unpack-requires
 unpack-requires c κs = let s = c .before .before .before .before .before .before .before .before .before .before .before .before .before in record { width = s .pre .0 .d-cases; count = 8; words = search needs; bytes = search needs }

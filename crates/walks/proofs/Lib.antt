@@ -1,0 +1,4 @@
+-- What proofs by hand share.
+pub mod Answer
+pub mod Kit
+pub mod Lent
