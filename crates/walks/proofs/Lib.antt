@@ -1,4 +1,4 @@
--- What proofs by hand share.
+-- The laws of walks by hand.
 pub mod Answer
 pub mod Kit
 pub mod Lent

@@ -1,1 +1,1 @@
-// No code: laws for proofs by hand, of functions over a struct that holds a reference or that is lent.
+// No code: the laws that walks of a function's MIR by hand share, where a struct is lent by &mut or holds a reference.
