@@ -19,7 +19,7 @@ use Rattle.scheme.specs.Encaps.{pkSeedA, encSeedSE, encNoise, encB, encC}
 use Rattle.scheme.specs.Decaps.{skPk, skPkh, ctC1, ctC2, ctSalt, ctB, ctC, agrees}
 use Rattle.scheme.proofs.Parts.{d-pos}
 use Rattle.sealing.specs.Sealing.{maskNoise, maskB, maskC, Masked}
-use Rattle.sealing.proofs.MatrixB.{drop-of-take}
+use Rattle.lists.proofs.Filled.{drop-of-take}
 use Rattle.sealing.proofs.Names.{enc-noise, enc-B, enc-C}
 use Rattle.opening.specs.Opening.{bit}
 use Rattle.opening.proofs.Choices.{bit-and}

@@ -6,10 +6,9 @@ use mathlib.Core.List.{List, _++_}
 use Prim.Native.Nat.{ℕ, _+_, _*_, _-_, _≤_}
 use native.Mathlib.Omega.{arith}
 use lib.Dec.{eqb}
-use lib.ListN.{length, take, drop, replicate, length-drop}
+use lib.ListN.{length, take, drop, length-drop}
 use lib.Seq.{take-all, length-take-le}
-use Rattle.lists.specs.Lists.{wiped}
-use Rattle.lists.proofs.Spans.{drop-front, length-mid}
+use Rattle.lists.proofs.Spans.{length-mid}
 use Rattle.sets.specs.Sets.{Valid}
 use Rattle.sets.specs.declared.Params.{Params}
 use Rattle.scheme.specs.Parts.{hash}
@@ -75,10 +74,3 @@ opened-law p sk ct em es = (es ∙ ap (λ (m : List ℕ). hash p (ct ++ decapsK 
 -- a choice is 1 or 0
 pub choice-le : (t : Bool) {choice : ℕ} → choice ≡ bit t → choice ≤ 1
 choice-le t e = omega (arith, bit-le t)
-
--- ---- what is left of the scratches
-
--- a list whose first f elements were written is wiped as it was, where at least as many are wiped
-pub wiped-front : (k f : ℕ) (l x : List ℕ) → length x ≡ length (take (f - 0) l) → f ≤ k → f ≤ length l → wiped k (x ++ drop (f - 0) l) ≡ wiped k l
-wiped-front k f l x e h r =
-    ap (λ (t : List ℕ). replicate k 0 ++ t) (drop-front l x (f - 0) k (e ∙ length-take-le (f - 0) l (omega arith)) (omega arith))
