@@ -1,12 +1,17 @@
--- Every accessor of a `CiphertextRef` that hands back a part of its bytes: the struct is taken apart, and a function g on the set and the slice is called. The MIR of the three differs in g alone and their contracts in the part alone, so one walk serves them.
+-- Every accessor of a `CiphertextRef` that hands back a part of its bytes: the struct is taken apart, and a function g on the set and the slice is called. The MIR of the three
+-- differs in g alone and their contracts in the part alone, so one walk serves them.
 --     code g           the MIR of an accessor that calls g
 --     asked, gives     the clauses of g, and of the accessor, for a part
 --     accessor-meets   where g meets its contract, the accessor meets its own
 -- Assumes nothing.
-use Rattle.walks.proofs.Kit.{_≡_, refl, ℕ, [], _∷_, List, length, URA, Name, Fn, named, erased, imm, tyRef, tyInt, w8, local, valueLocal, place, field, copy, rvOpd, seq, assign, call, return, Val, SProp, ent, sep, id⊢, Lft, Share, Fml}
-use Rattle.walks.proofs.Kit.{ftrue, flft, Heap, Calls, Loops, WpFn, Tables, Atoms, sem, Lfts, fact, Given, ‵, raw, _⊛_, given, ⋆, _$_, _∵_, !, qed, by, move, drop, use1, use2, split, learn, fsplit, fjoin, suffices, frame, done, whole, sub, look-in}
-use Rattle.walks.proofs.Kit.{look, init, forget, stop, fld, from, load, of-opd, and-then, no-more, assigns, land, returns, enter, alloc1, alloc0, params1, pass1, pass0, free1, free0, FmC, fmOf, WpFn-mono, RattleType, owns, Is, shows, u8, yes, RefT}
-use Rattle.walks.proofs.Kit.{now, namedLft, sliceVal, sliceTy, ShrSlice, shr-slice-lawful, peeks, nothing, Declared, all-own, own-open, Values, Contract, Triple, calls-at, Clauses, closing, Vals, onEntry, Meets, tripleOf, says, needs, Stays, stay-none}
+use Rattle.walks.proofs.Kit.{_≡_, refl, ℕ, [], _∷_, List, length, URA, Name, Fn, named, erased, imm, tyRef, tyInt, w8, local, valueLocal, place, field, copy, rvOpd, seq}
+use Rattle.walks.proofs.Kit.{assign, call, return, Val, SProp, ent, sep, id⊢, Lft, Share, Fml}
+use Rattle.walks.proofs.Kit.{ftrue, flft, Heap, Calls, Loops, WpFn, Tables, Atoms, sem, Lfts, fact, Given, ‵, raw, _⊛_, given, ⋆, _$_, _∵_, !, qed, by, move, drop, use1, use2}
+use Rattle.walks.proofs.Kit.{split, learn, fsplit, fjoin, suffices, frame, done, whole, sub, look-in}
+use Rattle.walks.proofs.Kit.{look, init, forget, stop, fld, from, load, of-opd, and-then, no-more, assigns, land, returns, enter, alloc1, alloc0, params1, pass1, pass0, free1}
+use Rattle.walks.proofs.Kit.{free0, FmC, fmOf, WpFn-mono, RattleType, owns, Is, shows, u8, yes, RefT}
+use Rattle.walks.proofs.Kit.{now, namedLft, sliceVal, sliceTy, ShrSlice, shr-slice-lawful, peeks, nothing, Declared, all-own, own-open, Values, Contract, Triple, calls-at}
+use Rattle.walks.proofs.Kit.{Clauses, closing, Vals, onEntry, Meets, tripleOf, says, needs, Stays, stay-none}
 use Rattle.walks.proofs.Kit.{walkOf, goes-none, Walks, ends-at, walked, walk-meets}
 use denote.Struct.Laws as LL
 use Rattle.walks.proofs.Answer.{answered}
@@ -26,8 +31,10 @@ code g = record {
   lifetimes = 1;
   outlives = [];
   params = 1;
-  locals = local (sliceTy (tyRef (named 0) imm (tyInt w8))) valueLocal ∷ local (T′.mir (named 0)) valueLocal ∷ local P′.mir valueLocal ∷ local (sliceTy (tyRef erased imm (tyInt w8))) valueLocal ∷ [];
-  body = seq (assign (place 2 []) (rvOpd (copy (place 1 (field 1 ∷ []))))) (seq (assign (place 3 []) (rvOpd (copy (place 1 (field 0 ∷ []))))) (seq (call g (copy (place 2 []) ∷ copy (place 3 []) ∷ []) (place 0 [])) return));
+  locals = local (sliceTy (tyRef (named 0) imm (tyInt w8))) valueLocal ∷ local (T′.mir (named 0)) valueLocal ∷ local P′.mir valueLocal
+      ∷ local (sliceTy (tyRef erased imm (tyInt w8))) valueLocal ∷ [];
+  body = seq (assign (place 2 []) (rvOpd (copy (place 1 (field 1 ∷ [])))))
+      (seq (assign (place 3 []) (rvOpd (copy (place 1 (field 0 ∷ []))))) (seq (call g (copy (place 2 []) ∷ copy (place 3 []) ∷ []) (place 0 [])) return));
 }
 
 -- the struct's type, over the signature's lifetimes
@@ -39,16 +46,25 @@ stayed = (stay-none B yes, tt)
 
 module _ {M : Type 1} (𝓤 : URA M) (part : Params → List ℕ → List ℕ) where
   abbrev pub asked : Clauses 𝓤 work.ended
-  asked κs a = record { ghost = Unit {0}; requires = λ _. fact 𝓤 (CiphertextSized (a .0) (length (now (a .1 .0)))); ensures = λ _ r e. fact 𝓤 (now r ≡ part (a .0) (now (a .1 .0))) }
+  asked κs a = record {
+    ghost = Unit {0};
+    requires = λ _. fact 𝓤 (CiphertextSized (a .0) (length (now (a .1 .0))));
+    ensures = λ _ r e. fact 𝓤 (now r ≡ part (a .0) (now (a .1 .0)));
+  }
 
   abbrev pub gives : Clauses 𝓤 f.ended
-  gives κs a = record { ghost = Unit {0}; requires = λ _. fact 𝓤 (CiphertextSized (a .0 .set) (length (now (a .0 .bytes)))); ensures = λ _ r e. fact 𝓤 (now r ≡ part (a .0 .set) (now (a .0 .bytes))) }
+  gives κs a = record {
+    ghost = Unit {0};
+    requires = λ _. fact 𝓤 (CiphertextSized (a .0 .set) (length (now (a .0 .bytes))));
+    ensures = λ _ r e. fact 𝓤 (now r ≡ part (a .0 .set) (now (a .0 .bytes)));
+  }
 
 module _ {M : Type 1} (𝓤 : URA M) (H : Heap 𝓤) (A : Atoms 𝓤) (part : Params → List ℕ → List ℕ) where
   abbrev pub Work : Contract 𝓤
   Work = tripleOf 𝓤 H A work.signature (closing 𝓤 H A work.ended (asked 𝓤 part))
 
-module _ {M : Type 1} (𝓤 : URA M) (H : Heap 𝓤) (A : Atoms 𝓤) (W : Given 𝓤 H A) (part : Params → List ℕ → List ℕ) (κ : Lft) (q : Share) (d : CiphertextRef) (ok : CiphertextSized (d .set) (length (now (d .bytes)))) where
+module _ {M : Type 1} (𝓤 : URA M) (H : Heap 𝓤) (A : Atoms 𝓤) (W : Given 𝓤 H A) (part : Params → List ℕ → List ℕ) (κ : Lft) (q : Share) (d : CiphertextRef)
+    (ok : CiphertextSized (d .set) (length (now (d .bytes)))) where
   abbrev mach : Val
   mach = LL.val (T.the-type (namedLft 1 0 tt (κ, tt))) (T′.the-laws (namedLft 1 0 tt (κ, tt))) d
 
@@ -91,12 +107,14 @@ module _ {M : Type 1} (𝓤 : URA M) (H : Heap 𝓤) (A : Atoms 𝓤) (W : Given
   apart : ent 𝓤 (onEntry 𝓤 H A f.signature (κ, tt) (q, tt) (d, tt) (mach ∷ [], tt)) (sep 𝓤 (Work 𝓤 H A part .pre to) (sem 𝓤 H A Own))
   apart =
       qed W ((‵ (flft κ q) ⊛ ‵ ftrue) ∷ ‵ (owns (B (κ, tt) ∷ []) (d, tt) (mach ∷ [], tt)) ∷ []) ∵
-      move ! (1 ∷ []) $ fsplit ! $ move ! (1 ∷ []) $ drop ! $ use1 W (‵ Own ⊛ ‵ Own) (LL.copy D (T′.the-copy (namedLft 1 0 tt (κ, tt))) 𝓤 H A W .twice d (mach ∷ [])) $ split ! $
+      move ! (1 ∷ []) $ fsplit ! $ move ! (1 ∷ []) $ drop ! $ use1 W (‵ Own ⊛ ‵ Own) (LL.copy D (T′.the-copy (namedLft 1 0 tt (κ, tt))) 𝓤 H A W .twice d (mach ∷ [])) $
+      split ! $
       use1 W (given (mach ∷ [] ≡ mach ∷ []) (‵ (all-own (D .parts) L vd))) (own-open 𝓤 H A W D L vd mach) $ learn ! (λ _. fsplit ! $ move ! (1 ∷ []) $ fsplit ! $
       -- [what set owns; true; what bytes owns; what the struct owns; the token]
       move ! (2 ∷ 1 ∷ []) $ fjoin ! $ move ! (1 ∷ 0 ∷ []) $ fjoin ! $ move ! (2 ∷ 0 ∷ []) $ use2 W (raw (Work 𝓤 H A part .pre to)) asks $ frame ! $ done !)
 
-  exits : (r : RefT (List ℕ)) (u : Val) → now r ≡ part (d .set) (now (d .bytes)) → ent 𝓤 (⋆ 𝓤 H A ((‵ (flft κ q) ⊛ ‵ ftrue) ∷ ‵ (ShrSlice (named 0) κ u8 .own r (u ∷ [])) ∷ ‵ Own ∷ [])) (Post u)
+  exits : (r : RefT (List ℕ)) (u : Val) → now r ≡ part (d .set) (now (d .bytes))
+      → ent 𝓤 (⋆ 𝓤 H A ((‵ (flft κ q) ⊛ ‵ ftrue) ∷ ‵ (ShrSlice (named 0) κ u8 .own r (u ∷ [])) ∷ ‵ Own ∷ [])) (Post u)
   exits r u e =
       qed W ((‵ (flft κ q) ⊛ ‵ ftrue) ∷ ‵ (ShrSlice (named 0) κ u8 .own r (u ∷ [])) ∷ ‵ Own ∷ []) ∵
       suffices ! _ (ends-at 𝓤 H A f.ended stayed (gives 𝓤 part) W (((κ, tt), (q, tt), tt, (d, tt), (mach ∷ [], tt)), tt) u r (tt, tt) (tt, tt)) $ says ! e $
@@ -113,17 +131,22 @@ module _ {M : Type 1} (𝓤 : URA M) (H : Heap 𝓤) (A : Atoms 𝓤) (W : Given
         assigns ! (of-opd ! (load ! (from ! (fld ! refl (stop !))) (look-in ! 4 (sub ! 0 refl (whole !))))) (from ! (stop !)) (init ! 0 refl (tt, typed .1 .0)) $
         move ! (8 ∷ []) $ use1 W (raw (Work 𝓤 H A part .pre to) ⊛ ‵ Own) apart $ split ! $
         calls-at ! fm (Work 𝓤 H A part) known to (and-then ! (load ! (from ! (stop !)) (look ! 4 refl)) (and-then ! (load ! (from ! (stop !)) (look ! 2 refl)) (no-more !))) (λ u.
-        answered ! tt work.ended (asked 𝓤 part) to u (‵ (flft κ q) ⊛ ‵ ftrue) (id⊢ 𝓤 _) (λ r _. now r ≡ part (d .set) (now (d .bytes))) (λ r ws. id⊢ 𝓤 _) (λ r ws e. drop ! $ move ! (1 ∷ []) $
+        answered ! tt work.ended (asked 𝓤 part) to u (‵ (flft κ q) ⊛ ‵ ftrue) (id⊢ 𝓤 _) (λ r _. now r ≡ part (d .set) (now (d .bytes))) (λ r ws. id⊢ 𝓤 _) (λ r ws e. drop ! $
+        move ! (1 ∷ []) $
         -- [the result; the token; what the struct owns; _3; …; _2; …; _1; …; room for _0; …]
         peeks ! (ShrSlice (named 0) κ u8) (Is (ShrSlice (named 0) κ u8)) (shows 𝓤 H A (ShrSlice (named 0) κ u8)) r (u ∷ []) (λ is.
         land ! (from ! (stop !)) (init ! 9 refl (shr-slice-lawful 𝓤 H A W (named 0) κ u8 .typed r (u ∷ []) is .0)) $
         returns ! (look ! 9 refl) $ forget ! 3 refl $ forget ! 5 refl $ forget ! 7 refl $ forget ! 9 refl $
-        move ! (9 ∷ 10 ∷ []) $ free1 ! $ move ! (7 ∷ 8 ∷ []) $ free1 ! $ move ! (5 ∷ 6 ∷ []) $ free1 ! $ move ! (3 ∷ 4 ∷ []) $ free1 ! $ free0 ! $ move ! (1 ∷ 0 ∷ []) $ by ! (exits r u e))))))))
+        move ! (9 ∷ 10 ∷ []) $ free1 ! $ move ! (7 ∷ 8 ∷ []) $ free1 ! $ move ! (5 ∷ 6 ∷ []) $ free1 ! $ move ! (3 ∷ 4 ∷ []) $ free1 ! $ free0 ! $ move ! (1 ∷ 0 ∷ []) $
+        by ! (exits r u e))))))))
 
 module _ {M : Type 1} (𝓤 : URA M) (H : Heap 𝓤) (A : Atoms 𝓤) (W : Given 𝓤 H A) (part : Params → List ℕ → List ℕ) (g : Name) where
   walks : (C : Calls 𝓤 H) (Λ : Loops 𝓤 H) → FmC 𝓤 H (W .laws) C → Triple 𝓤 (C g) (Work 𝓤 H A part) → Walks 𝓤 H A f.ended stayed (WpFn 𝓤 H C Λ (code g)) (gives 𝓤 part)
-  walks C Λ fm known = walked 𝓤 H A f.ended stayed (gives 𝓤 part) (WpFn 𝓤 H C Λ (code g)) (λ κs. (LL.vals (T.the-type (namedLft 1 0 tt κs)) (T′.the-laws (namedLft 1 0 tt κs)), tt)) (λ κs. (LL.tells (T.the-type (namedLft 1 0 tt κs)) (T′.the-laws (namedLft 1 0 tt κs)), tt))
+  walks C Λ fm known = walked 𝓤 H A f.ended stayed (gives 𝓤 part) (WpFn 𝓤 H C Λ (code g))
+      (λ κs. (LL.vals (T.the-type (namedLft 1 0 tt κs)) (T′.the-laws (namedLft 1 0 tt κs)), tt))
+      (λ κs. (LL.tells (T.the-type (namedLft 1 0 tt κs)) (T′.the-laws (namedLft 1 0 tt κs)), tt))
       (λ κs qs bounds a _ are. needs 𝓤 _ _ (λ ok. walk 𝓤 H A W part (κs .0) (qs .0) (a .0) ok g C Λ fm known (are .0)))
 
   pub accessor-meets : (𝓣 : Tables 𝓤 H) → Triple 𝓤 (𝓣 .C g) (Work 𝓤 H A part) → Meets 𝓤 H A f.signature (WpFn 𝓤 H (𝓣 .C) (𝓣 .Λ) (code g)) (closing 𝓤 H A f.ended (gives 𝓤 part))
-  accessor-meets 𝓣 known = walk-meets 𝓤 H A f.ended stayed W (goes-none 𝓤 H A W 1 B yes (λ κs x f. refl), tt) (gives 𝓤 part) (WpFn 𝓤 H (𝓣 .C) (𝓣 .Λ) (code g)) (WpFn-mono 𝓤 H (W .laws) 𝓣 (code g)) (walks (𝓣 .C) (𝓣 .Λ) (fmOf 𝓤 H (W .laws) 𝓣) known)
+  accessor-meets 𝓣 known = walk-meets 𝓤 H A f.ended stayed W (goes-none 𝓤 H A W 1 B yes (λ κs x f. refl), tt)
+      (gives 𝓤 part) (WpFn 𝓤 H (𝓣 .C) (𝓣 .Λ) (code g)) (WpFn-mono 𝓤 H (W .laws) 𝓣 (code g)) (walks (𝓣 .C) (𝓣 .Λ) (fmOf 𝓤 H (W .laws) 𝓣) known)

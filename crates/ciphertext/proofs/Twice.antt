@@ -1,5 +1,6 @@
 -- What a set and a slice own can be had twice: both are Copy. Assumes `Given`.
-use Rattle.walks.proofs.Kit.{ℕ, List, [], _∷_, length, URA, named, Val, ent, sep, Lft, Fml, Heap, Atoms, sem, Given, ‵, _⊛_, _$_, _∵_, !, qed, move, use1, split, fsplit, fjoin, frame, done, owns, u8, RefT, sliceVal, ShrSlice, shr-slice-copy, nothing}
+use Rattle.walks.proofs.Kit.{ℕ, List, [], _∷_, length, URA, named, Val, ent, sep, Lft, Fml, Heap, Atoms, sem, Given, ‵, _⊛_, _$_, _∵_, !, qed, move, use1, split, fsplit, fjoin}
+use Rattle.walks.proofs.Kit.{frame, done, owns, u8, RefT, sliceVal, ShrSlice, shr-slice-copy, nothing}
 use denote.Struct.Laws as LL
 use Rattle.sets.specs.declared.Params.{Params}
 use Rattle.sets.proofs.Params as P

@@ -36,8 +36,8 @@ fn salt_part<'a>(p: Params, ct: &'a [u8]) -> &'a [u8]
 
 // The bytes of a ciphertext, and the set that says where its parts stand.
 pub struct CiphertextRef<'a> {
-    pub bytes: &'a [u8],
-    pub set: Params,
+    bytes: &'a [u8],
+    set: Params,
 }
 
 impl<'a> CiphertextRef<'a> {

@@ -1,7 +1,6 @@
 -- `opening::open_parts` meets its contract: three parts in a row.
 -- Assumes nothing.
 use borrow.Author.Needs.{needs}
-use native.Mathlib.Omega.{arith}
 use mathlib.Core.Path.{ap, _∙_}
 use lib.ListN.{length}
 use Rattle.ciphertext.proofs.Lengths.{c1-long, c2-long}

@@ -1,7 +1,10 @@
 -- `CiphertextRef::from_slice` meets its contract: a walk of its MIR, by hand. The struct is made of the two parameters, of which a copy is kept. Assumes nothing.
-use Rattle.walks.proofs.Kit.{refl, ℕ, List, [], _∷_, URA, named, Val, SProp, ent, Lft, Share, ftrue, flft, Memory, Routine, Heap, Calls, Loops, WpFn, Tables, Atoms, Fun, givenOf, tables, tablesOf, Given, ‵, raw, _⊛_, _$_, _∵_, !, qed, by, move, use1}
-use Rattle.walks.proofs.Kit.{split, fsplit, fjoin, suffices, frame, agg, look, init, forget, stop, from, load, and-then, no-more, assigns, returns, enter, alloc1, alloc0, params1, pass1, pass0, free1, free0, WpFn-mono, Is, u8, yes, RefT, NamedLft}
-use Rattle.walks.proofs.Kit.{plain, namedLft, ShrSlice, slice-vals, shr-slice-tells, shr-slice-lawful, own-shut, onEntry, Meets, tripleOf, entered, says, needs, Stays, stay-none, stay-none-slice, walkOf, goes-none, goes-none-slice, Walks, ends-at}
+use Rattle.walks.proofs.Kit.{refl, ℕ, List, [], _∷_, URA, named, Val, SProp, ent, Lft, Share, ftrue, flft, Memory, Routine, Heap, Calls, Loops, WpFn, Tables, Atoms, Fun}
+use Rattle.walks.proofs.Kit.{givenOf, tables, tablesOf, Given, ‵, raw, _⊛_, _$_, _∵_, !, qed, by, move, use1}
+use Rattle.walks.proofs.Kit.{split, fsplit, fjoin, suffices, frame, agg, look, init, forget, stop, from, load, and-then, no-more, assigns, returns, enter, alloc1, alloc0}
+use Rattle.walks.proofs.Kit.{params1, pass1, pass0, free1, free0, WpFn-mono, Is, u8, yes, RefT, NamedLft}
+use Rattle.walks.proofs.Kit.{plain, namedLft, ShrSlice, slice-vals, shr-slice-tells, shr-slice-lawful, own-shut, onEntry, Meets, tripleOf, entered, says, needs, Stays}
+use Rattle.walks.proofs.Kit.{stay-none, stay-none-slice, walkOf, goes-none, goes-none-slice, Walks, ends-at}
 use Rattle.walks.proofs.Kit.{walked, walk-meets}
 use denote.Struct.Laws as LL
 use Rattle.sets.specs.declared.Params.{Params}
@@ -19,7 +22,8 @@ use Rattle.ciphertext.proofs.CiphertextRef.from_slice.Code as code
 abbrev stayed : Stays (f.ended .signature .params) (f.ended .kept)
 stayed = (stay-none (λ _. P.the-row) yes, (stay-none-slice (0 ∷ []) tt (plain (λ _. u8)) yes, tt))
 
-module _ {M : Type 1} (𝓤 : URA M) (H : Heap 𝓤) (A : Atoms 𝓤) (W : Given 𝓤 H A) (mem : Memory → SProp 𝓤) (run : Routine → Fun 𝓤) (κ : Lft) (q : Share) (p : Params) (s : RefT (List ℕ)) where
+module _ {M : Type 1} (𝓤 : URA M) (H : Heap 𝓤) (A : Atoms 𝓤) (W : Given 𝓤 H A) (mem : Memory → SProp 𝓤) (run : Routine → Fun 𝓤) (κ : Lft) (q : Share) (p : Params)
+    (s : RefT (List ℕ)) where
   abbrev α : NamedLft
   α = namedLft 1 0 tt (κ, tt)
 
@@ -38,29 +42,38 @@ module _ {M : Type 1} (𝓤 : URA M) (H : Heap 𝓤) (A : Atoms 𝓤) (W : Given
   exits : ent 𝓤 (onEntry 𝓤 H A f.signature (κ, tt) (q, tt) x at) (Post (LL.val (T.the-type α) (T′.the-laws α) made))
   exits =
       qed W ((‵ (flft κ q) ⊛ ‵ ftrue) ∷ ‵ (Both κ p s) ∷ []) ∵
-      suffices ! _ (ends-at 𝓤 H A f.ended stayed (f.clauses 𝓤 H A mem run) W (((κ, tt), (q, tt), tt, x, at), tt) (LL.val (T.the-type α) (T′.the-laws α) made) made (tt, (tt, tt)) (tt, (tt, tt))) $ says ! (refl, refl) $
+      suffices ! _ (ends-at 𝓤 H A f.ended stayed (f.clauses 𝓤 H A mem run) W (((κ, tt), (q, tt), tt, x, at), tt)
+      (LL.val (T.the-type α) (T′.the-laws α) made) made (tt, (tt, tt)) (tt, (tt, tt))) $
+      says ! (refl, refl) $
       frame ! $ use1 W (‵ (Both κ p s) ⊛ ‵ (Both κ p s)) (both-twice 𝓤 H A W κ p s) $ split ! $ frame ! $
       -- what the fields own together is what the struct owns
-      fsplit ! $ move ! (1 ∷ []) $ fsplit ! $ move ! (2 ∷ 1 ∷ []) $ fjoin ! $ move ! (1 ∷ 0 ∷ []) $ fjoin ! $ by ! (own-shut 𝓤 H A W (T.the-type α) (T′.the-laws α) (s, (p, tt)))
+      fsplit ! $ move ! (1 ∷ []) $ fsplit ! $ move ! (2 ∷ 1 ∷ []) $ fjoin ! $ move ! (1 ∷ 0 ∷ []) $ fjoin ! $
+      by ! (own-shut 𝓤 H A W (T.the-type α) (T′.the-laws α) (s, (p, tt)))
 
   module _ (C : Calls 𝓤 H) (Λ : Loops 𝓤 H) where
-    walk : Is P.the-row p (set-val p ∷ []) → Is (ShrSlice (named 0) κ u8) s (vals s) → ent 𝓤 (onEntry 𝓤 H A f.signature (κ, tt) (q, tt) x at) (WpFn 𝓤 H C Λ code.function (set-val p ∷ vals s) Post)
+    walk : Is P.the-row p (set-val p ∷ []) → Is (ShrSlice (named 0) κ u8) s (vals s)
+        → ent 𝓤 (onEntry 𝓤 H A f.signature (κ, tt) (q, tt) x at) (WpFn 𝓤 H C Λ code.function (set-val p ∷ vals s) Post)
     walk gp gs =
         let tp = LL.lawful P.the-type P′.the-laws 𝓤 H A W .typed p _ gp .0 in
         let ts = shr-slice-lawful 𝓤 H A W (named 0) κ u8 .typed s (vals s) gs .0 in
         qed W (raw (onEntry 𝓤 H A f.signature (κ, tt) (q, tt) x at) ∷ []) ∵ enter ! C Λ code.function (set-val p ∷ vals s) _ $
         alloc1 ! (λ l₀. alloc1 ! (λ l₁. alloc1 ! (λ l₂. alloc0 ! $ params1 ! $ pass1 ! (init ! 2 refl tp) $ pass1 ! (init ! 0 refl ts) $ pass0 ! $
-        assigns ! (agg ! (and-then ! (load ! (from ! (stop !)) (look ! 0 refl)) (and-then ! (load ! (from ! (stop !)) (look ! 2 refl)) (no-more !)))) (from ! (stop !)) (init ! 4 refl (LL.lawful (T.the-type α) (T′.the-laws α) 𝓤 H A W .typed made _ (LL.owes (T.the-type α) (T′.the-laws α) made (gs, (gp, tt))) .0)) $
-        returns ! (look ! 4 refl) $ forget ! 0 refl $ forget ! 2 refl $ forget ! 4 refl $ move ! (4 ∷ 5 ∷ []) $ free1 ! $ move ! (2 ∷ 3 ∷ []) $ free1 ! $ free1 ! $ free0 ! $ by ! exits)))
+        assigns ! (agg ! (and-then ! (load ! (from ! (stop !)) (look ! 0 refl)) (and-then ! (load ! (from ! (stop !)) (look ! 2 refl)) (no-more !))))
+        (from ! (stop !)) (init ! 4 refl (LL.lawful (T.the-type α) (T′.the-laws α) 𝓤 H A W .typed made _ (LL.owes (T.the-type α) (T′.the-laws α) made (gs, (gp, tt))) .0)) $
+        returns ! (look ! 4 refl) $ forget ! 0 refl $ forget ! 2 refl $ forget ! 4 refl $ move ! (4 ∷ 5 ∷ []) $ free1 ! $ move ! (2 ∷ 3 ∷ []) $ free1 ! $ free1 ! $ free0 ! $
+        by ! exits)))
 
 module _ {M : Type 1} (𝓤 : URA M) (H : Heap 𝓤) (A : Atoms 𝓤) (W : Given 𝓤 H A) (mem : Memory → SProp 𝓤) (run : Routine → Fun 𝓤) where
   walks : (C : Calls 𝓤 H) (Λ : Loops 𝓤 H) → Walks 𝓤 H A f.ended stayed (WpFn 𝓤 H C Λ code.function) (f.clauses 𝓤 H A mem run)
-  walks C Λ = walked 𝓤 H A f.ended stayed (f.clauses 𝓤 H A mem run) (WpFn 𝓤 H C Λ code.function) (λ κs. (LL.vals P.the-type P′.the-laws, (slice-vals, tt))) (λ κs. (LL.tells P.the-type P′.the-laws, (shr-slice-tells (named 0) (κs .0) u8, tt)))
+  walks C Λ = walked 𝓤 H A f.ended stayed (f.clauses 𝓤 H A mem run) (WpFn 𝓤 H C Λ code.function)
+      (λ κs. (LL.vals P.the-type P′.the-laws, (slice-vals, tt))) (λ κs. (LL.tells P.the-type P′.the-laws, (shr-slice-tells (named 0) (κs .0) u8, tt)))
       (λ κs qs bounds a g are. needs 𝓤 _ _ (λ _. walk 𝓤 H A W mem run (κs .0) (qs .0) (a .0) (a .1 .0) C Λ (are .0) (are .1 .0)))
 
 meets : {M : Type 1} (𝓤 : URA M) (H : Heap 𝓤) (A : Atoms 𝓤) → Given 𝓤 H A → (mem : Memory → SProp 𝓤) (run : Routine → Fun 𝓤) (𝓣 : Tables 𝓤 H)
     → Meets 𝓤 H A f.signature (WpFn 𝓤 H (𝓣 .C) (𝓣 .Λ) code.function) (f.spec 𝓤 H A mem run)
-meets 𝓤 H A W mem run 𝓣 = walk-meets 𝓤 H A f.ended stayed W (goes-none 𝓤 H A W 1 (λ _. P.the-row) yes (λ κs x f. refl), (goes-none-slice 𝓤 H A W 1 (0 ∷ []) tt (plain (λ _. u8)) yes, tt)) (f.clauses 𝓤 H A mem run) (WpFn 𝓤 H (𝓣 .C) (𝓣 .Λ) code.function) (WpFn-mono 𝓤 H (W .laws) 𝓣 code.function) (walks 𝓤 H A W mem run (𝓣 .C) (𝓣 .Λ))
+meets 𝓤 H A W mem run 𝓣 =
+    walk-meets 𝓤 H A f.ended stayed W (goes-none 𝓤 H A W 1 (λ _. P.the-row) yes (λ κs x f. refl), (goes-none-slice 𝓤 H A W 1 (0 ∷ []) tt (plain (λ _. u8)) yes, tt))
+    (f.clauses 𝓤 H A mem run) (WpFn 𝓤 H (𝓣 .C) (𝓣 .Λ) code.function) (WpFn-mono 𝓤 H (W .laws) 𝓣 code.function) (walks 𝓤 H A W mem run (𝓣 .C) (𝓣 .Λ))
 
 pub from-slice-spec : {M : Type 1} → stated.statement M
 unfolding code.routine tablesOf
