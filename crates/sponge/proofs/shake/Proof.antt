@@ -6,4 +6,5 @@ use Rattle.sponge.proofs.shake.Statement.{statement}
 use Rattle.sponge.proofs.shake.Tie as tie
 
 pub shake-spec : {M : Type 1} → statement M
-shake-spec = tie.close (tie.spec (λ c. search needs) (λ c. search needs) (λ c. search needs) (λ c κs. search needs) (λ c. search needs) (λ c. c .before .before .shake2 .ensures ∙ nothing-more _ _ _))
+shake-spec = tie.close (tie.spec (λ c. search needs) (λ c. search needs) (λ c. search needs) (λ c κs. search needs) (λ c. search needs)
+    (λ c. c .before .before .shake2 .ensures ∙ nothing-more _ _ _))

@@ -9,7 +9,8 @@ returns : tie.Need-returns
 returns c =
     let third = c .before .before .before .before .before in
     let start = third .before .before .before in
-    c .before .before .bytes-of .ensures ∙ three _ _ _ _ (start .pre) (third .before .before .shared-slice-known .given) (third .before .shared-slice-known2 .given) (third .shared-slice-known3 .given)
+    c .before .before .bytes-of .ensures ∙ three _ _ _ _ (start .pre) (third .before .before .shared-slice-known .given) (third .before .shared-slice-known2 .given)
+    (third .shared-slice-known3 .given)
 
 pub shake3-spec : {M : Type 1} → statement M
 shake3-spec = tie.close (tie.spec (λ c κs. search needs) (λ c. search needs) returns)
