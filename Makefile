@@ -1,6 +1,7 @@
-# make test           the whole gate: layout, the tests on the library below, then proofs, must-fail edits and replayed answers; its last line is the
+# make test           the whole gate: layout, the library and the tests over it below, then proofs, must-fail edits and replayed answers; its last line is the
 #                     prover's 'N passed, 0 failed'
-# make lib            the library: dist/libfrodo_c.a and dist/frodo.h
+# make lib            dist/libfrodo_c.a and dist/frodo.h, for C and Rust to link
+# make host           the Rust crate's tests and the C example, over dist/
 # make stack          the stack that each call takes
 # make signal         a process with a broken heap seals its report in a signal handler; another process opens it
 # make hostile        guard pages, wrong lengths and sets, unset memory
@@ -8,14 +9,14 @@
 # make bench          speed beside other code, as ratios
 # make oracle         builds frodo-kem-rs from its own source (FRODO_KEM_RS names its folder), for the lists in tests/lists
 # make lists          makes the lists of answers again: wants the oracle
-.PHONY: test layout lib stack signal hostile side-by-side bench oracle lists clean
+.PHONY: test layout lib host stack signal hostile side-by-side bench oracle lists clean
 .NOTPARALLEL:
 
-CFLAGS = -std=c11 -O2 -g -Wall -Wextra -Werror
+CFLAGS = -std=c11 -D_GNU_SOURCE -O2 -g -Wall -Wextra -Werror
 # Bound when the program starts: a memcpy that is bound at its first use runs the dynamic linker on the caller's stack.
 LDFLAGS = -Wl,-z,now
 
-test: layout stack signal hostile side-by-side
+test: layout lib host stack signal hostile side-by-side
 	rt ci
 
 layout:
@@ -25,12 +26,19 @@ lib:
 	rt staticlib frodo_c
 	mkdir -p dist
 	cp target/staticlib/libfrodo_c.a include/frodo.h dist/
+	tests/lib/check dist/libfrodo_c.a
+
+dist/libfrodo_c.a dist/frodo.h: lib
+
+host: lib
+	cd host/rust && CARGO_TARGET_DIR=$(CURDIR)/build/rust cargo test --offline --quiet
+	mkdir -p build
+	$(CC) $(CFLAGS) -I dist examples/c/seal.c dist/libfrodo_c.a -o build/seal
+	build/seal
 
 build/%: tests/%.c tests/lengths.h dist/libfrodo_c.a dist/frodo.h
 	mkdir -p $(@D)
-	$(CC) $(CFLAGS) -Idist $< dist/libfrodo_c.a $(LDFLAGS) -o $@
-
-dist/libfrodo_c.a dist/frodo.h: lib
+	$(CC) $(CFLAGS) -I dist $< dist/libfrodo_c.a $(LDFLAGS) -o $@
 
 stack: build/stack/stack
 	build/stack/stack
@@ -56,7 +64,7 @@ oracle:
 	tests/oracle/build
 
 lists: oracle
-	for list in shake_edges parts products; do python3 tests/lists/$$list.py || exit 1; done
+	for list in shake_edges parts products kem; do python3 tests/lists/$$list.py || exit 1; done
 
 clean:
 	rm -rf target build dist

@@ -1,16 +1,57 @@
 #!/usr/bin/env python3
-"""Writes crates/replay_kem/data/kem.txt: the oracle's answers for whole calls, 20 seeds a set.
+"""Writes crates/replay_kem/data/kem.txt: the oracle's answers for whole calls, 20 seeds a set, and the margins of the same seeds.
 
     SET SEED MSG SALT PK SK CT SS             keys, ciphertext and secret, as in published.txt: three digests and the secret whole
     open SET SEED MSG SALT KIND PLACE BITS SS MSG      what decapsulation gives after damage
+    margin SET SEED MSG SALT SIZE             the largest size of a centred entry of S'E + E'' - E'S
 
 KIND is none; ct or sk, the byte at PLACE of the ciphertext or of the secret key with BITS exclusive-ored in; allct or allsk, every byte of
-it replaced by SHAKE128 over PLACE, SEED and MSG. PLACE is three bytes, big-endian. A digest is 16 bytes of SHAKE256."""
+it replaced by SHAKE128 over PLACE, SEED and MSG. PLACE and SIZE are three bytes, big-endian. A digest is 16 bytes of SHAKE256.
+The crate has no margin: sizes are computed here from the proposal, with hashlib's SHAKE and whole numbers. Only the public key is the oracle's."""
 import hashlib
-from oracle import D, N, Oracle, SECRET, SEED_SE, digest, random, write
+from oracle import D, N, Oracle, SECRET, SEED_SE, digest, random, unwords, write
+
+# Document 01, module 5: the tables of the noise, without the last entry, which is left out.
+TABLE = {
+    1: [4643, 13363, 20579, 25843, 29227, 31145, 32103, 32525, 32689, 32745, 32762, 32766],
+    2: [5638, 15915, 23689, 28571, 31116, 32217, 32613, 32731, 32760, 32766],
+    3: [9142, 23462, 30338, 32361, 32725, 32765],
+}
+
+
+def shake(s, data, size):
+    return (hashlib.shake_128 if s == 1 else hashlib.shake_256)(data).digest(size)
+
+
+def sample(s, word):
+    size = sum(entry < word // 2 for entry in TABLE[s])
+    return -size if word % 2 else size
+
+
+def noise(s, front, seed_se, count):
+    return [sample(s, word) for word in unwords(shake(s, bytes([front]) + seed_se, 2 * count))]
+
+
+def largest_size(s, seed, pk, msg, salt):
+    """Document 01, module 11. S is stored transposed, E row by row; S', E' and E'' row by row."""
+    n, q, secret = N[s], 2 ** D[s], SECRET[s]
+    drawn = noise(s, 0x5F, seed[secret : secret + SEED_SE[s]], 16 * n)
+    columns_s = [drawn[j * n : j * n + n] for j in range(8)]
+    columns_e = [drawn[8 * n + j :: 8] for j in range(8)]
+    pkh = shake(s, pk, secret)
+    drawn = noise(s, 0x96, shake(s, pkh + msg + salt, SEED_SE[s] + secret)[: SEED_SE[s]], 16 * n + 64)
+    rows_s = [drawn[i * n : i * n + n] for i in range(8)]
+    rows_e = [drawn[(8 + i) * n : (8 + i) * n + n] for i in range(8)]
+
+    def product(row, column):
+        return sum(x * y for x, y in zip(row, column, strict=True))
+
+    entries = [product(rows_s[i], columns_e[j]) + drawn[16 * n + 8 * i + j] - product(rows_e[i], columns_s[j]) for i in range(8) for j in range(8)]
+    return max(abs((entry + q // 2) % q - q // 2) for entry in entries)
+
 
 oracle = Oracle()
-lines = ["# frodo-kem-rs 0.9.1's answers for whole calls, honest and after damage (tests/lists/kem.py)."]
+lines = ["# Whole calls: frodo-kem-rs 0.9.1's answers, honest and after damage, and margins by an independent computation (tests/lists/kem.py)."]
 
 for s in (1, 2, 3):
     n, d, secret = N[s], D[s], SECRET[s]
@@ -25,6 +66,7 @@ for s in (1, 2, 3):
         ct, ss = (bytes.fromhex(x) for x in oracle.ask("encaps", s, pk.hex(), msg.hex(), salt.hex()))
         front = f"{s} {seed.hex()} {msg.hex()} {salt.hex()}"
         lines.append(f"{front} {digest(pk)} {digest(sk)} {digest(ct)} {ss.hex()}")
+        lines.append(f"margin {front} {largest_size(s, seed, pk, msg, salt).to_bytes(3, 'big').hex()}")
 
         def place(label, start, size):
             return start + int.from_bytes(random(f"{label} {s} {k}", 4), "big") % size

@@ -1,8 +1,11 @@
 // The C interface: one thin function a call, which answers the paper's number. A slice is a pointer and a length in elements.
+use frodo::SetLengths;
 use ratio::Margin;
 ghost use mathlib.Core.Path.{_≡_};
 ghost use Rattle.frodo.specs.One.{Keypair, Encaps, Decaps, DecapsSecret, Margins};
+ghost use Rattle.frodo.specs.SetLengths.{lengthsFor};
 ghost use Rattle.frodo_c.specs.Call.{Call, MarginCall, flagOf, marginOf};
+ghost use Rattle.frodo_c.specs.Table.{Fits, lengthsInC};
 
 #[no_mangle]
 pub extern "C" fn frodo_generate_keypair_from_seed(
@@ -118,4 +121,44 @@ pub extern "C" fn frodo_margin(
 {
     let m = frodo::margin(set, seed, message, salt, noise, work);
     margin_of(m)
+}
+
+// struct frodo_lengths of the C interface.
+#[repr(C)]
+pub struct FrodoLengths {
+    pub seed: u32,
+    pub public_key: u32,
+    pub secret_key: u32,
+    pub ciphertext: u32,
+    pub message: u32,
+    pub salt: u32,
+    pub shared_secret: u32,
+    pub noise_words: u32,
+    pub work_words: u32,
+}
+
+fn lengths_in_c(l: SetLengths) -> FrodoLengths
+    requires { ⌜ Fits l ⌝ }
+    ensures { λ r. ⌜ r ≡ lengthsInC l ⌝ }
+{
+    FrodoLengths {
+        seed: l.seed as u32,
+        public_key: l.pk as u32,
+        secret_key: l.sk as u32,
+        ciphertext: l.ct as u32,
+        message: l.message as u32,
+        salt: l.salt as u32,
+        shared_secret: l.ss as u32,
+        noise_words: l.noise as u32,
+        work_words: l.work as u32,
+    }
+}
+
+// The lengths of a set's buffers, all 0 where the number is no set.
+#[no_mangle]
+pub extern "C" fn frodo_lengths(set: u32) -> FrodoLengths
+    ensures { λ r. ⌜ r ≡ lengthsInC (lengthsFor set) ⌝ }
+{
+    let l = frodo::lengths_of(set);
+    lengths_in_c(l)
 }
