@@ -13,7 +13,7 @@
 .NOTPARALLEL:
 
 SHELL = /bin/bash -o pipefail
-CFLAGS = -std=c11 -O2 -g -Wall -Wextra -Werror
+CFLAGS = -std=c11 -D_GNU_SOURCE -O2 -g -Wall -Wextra -Werror
 # Bound when the program starts: a memcpy that is bound at its first use runs the dynamic linker on the caller's stack.
 LDFLAGS = -Wl,-z,now
 

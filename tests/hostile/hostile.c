@@ -6,7 +6,6 @@
  *             zero, the front of each scratch is zero, later words and all bytes outside what was lent stand
  *
  *   hostile [RANDOM-CALLS [DONE-CALLS-EACH]]      default 120000 random calls, 60 done calls of each kind and set, each made twice */
-#define _GNU_SOURCE
 #include <inttypes.h>
 #include <signal.h>
 #include <stdbool.h>

@@ -9,7 +9,6 @@
  *
  * The cipher above the shared secret is the caller's and no part of the library. What stands in for it here is the secret repeated and XORed over the report: it
  * shows that both sides hold the same secret, and is no cipher to use. */
-#define _GNU_SOURCE
 #include <errno.h>
 #include <fcntl.h>
 #include <signal.h>

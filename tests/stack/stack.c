@@ -7,7 +7,6 @@
  * LIMIT bytes between the stack pointer and the guard page, so that a deeper touch, also a read, stops the run.
  *
  * The program is linked with -z now: a memcpy that is bound at its first use runs the dynamic linker on the caller's stack. */
-#define _GNU_SOURCE
 #include <signal.h>
 #include <stdio.h>
 #include <stdlib.h>
