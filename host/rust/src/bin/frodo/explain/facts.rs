@@ -66,7 +66,7 @@ pub enum Message {
     Opened,
     /// One group of B bits differs from what the report opens to: this entry of the 64.
     Group(usize),
-    /// The report opens to it when a word in each of so many rows of c1 is put right.
+    /// The report opens to it when damage in so many rows of c1 and c2 is undone.
     Rows(usize),
 }
 

@@ -1,8 +1,11 @@
 //! Gathers the facts: opens the report, seals again, compares, and searches where that is far off.
 use super::facts::{closeness, compare, Closeness, Facts, Inputs, Message, Part, Salt, Tried};
+use super::rows;
 use super::search::{messages, salts, Candidate};
 use crate::kem::{Kem, Opened, Sealed};
+use crate::sets::Set;
 use std::io::{self, IsTerminal};
+use std::thread;
 use stroupadal::Refusal;
 
 /// A report, the secret key, and what else there is. All lengths are the set's.
@@ -28,40 +31,50 @@ struct Attempt {
     parts: Vec<Part>,
 }
 
-/// The key that judges, and what it opens the report to.
+/// The key that judges, and the report.
 struct Judge<'a> {
-    kem: &'a mut Kem,
+    set: Set,
+    secret: &'a [u8],
     report: &'a [u8],
-    public: &'a [u8],
 }
 
 impl Judge<'_> {
-    fn attempt(&mut self, candidate: Candidate) -> Result<Attempt, Refusal> {
-        let sealed = self.kem.seal(self.public, &candidate.message.1, &candidate.salt.1)?;
-        let parts = compare(&self.kem.set.sealed_parts(), self.report, &sealed.report);
+    fn attempt(&self, candidate: Candidate) -> Result<Attempt, Refusal> {
+        let public = &self.secret[self.set.public_in_secret()];
+        let sealed = Kem::new(self.set).seal(public, &candidate.message.1, &candidate.salt.1)?;
+        let parts = compare(&self.set.sealed_parts(), self.report, &sealed.report);
         Ok(Attempt { candidate, sealed, parts })
     }
 
-    /// The first candidate that comes near, and how many were tried.
-    fn search(&mut self, candidates: &[Candidate]) -> Result<(Option<Attempt>, usize), Refusal> {
-        for (count, candidate) in candidates.iter().enumerate() {
+    /// The first candidate that comes near, and how many were tried: a batch at a time, one a core.
+    fn search(&self, candidates: &[Candidate]) -> Result<(Option<Attempt>, usize), Refusal> {
+        let cores = thread::available_parallelism().map_or(1, usize::from);
+        let mut count = 0;
+        for batch in candidates.chunks(cores) {
             progress(count, candidates.len());
-            let attempt = self.attempt(candidate.clone())?;
-            if closeness(&attempt.parts) != Closeness::Far {
-                progress_done();
-                return Ok((Some(attempt), count + 1));
+            let attempts: Vec<Result<Attempt, Refusal>> = thread::scope(|scope| {
+                let running: Vec<_> = batch.iter().map(|candidate| scope.spawn(|| self.attempt(candidate.clone()))).collect();
+                running.into_iter().map(|attempt| attempt.join().expect("an attempt does not panic")).collect()
+            });
+            count += batch.len();
+            for attempt in attempts {
+                let attempt = attempt?;
+                if closeness(&attempt.parts) != Closeness::Far {
+                    progress_done();
+                    return Ok((Some(attempt), count));
+                }
             }
         }
         progress_done();
-        Ok((None, candidates.len()))
+        Ok((None, count))
     }
 }
 
 /// On a terminal a line that counts; elsewhere one line.
 fn progress(count: usize, all: usize) {
     if count == 0 {
-        crate::say(&format!("searching among {all} other sealings: salts with one bit changed, messages with one group changed\n"));
-    } else if count.is_multiple_of(16) && io::stderr().is_terminal() {
+        crate::say(&format!("searching among {all} other sealings: bytes of c1 or c2 put right, salts with a bit changed, messages with a group changed\n"));
+    } else if io::stderr().is_terminal() {
         crate::say(&format!("\r{count} of {all}"));
     }
 }
@@ -83,13 +96,17 @@ fn candidates(kem: &Kem, case: &Case, opened: &Opened) -> (Candidate, Candidate)
 }
 
 /// What to try beyond `from`: nothing that was given is changed.
-fn around(kem: &Kem, case: &Case, from: &Candidate) -> Vec<Candidate> {
+fn around(judge: &Judge<'_>, case: &Case, from: &Candidate) -> Vec<Candidate> {
     let mut list = Vec::new();
-    if case.search && case.salt.is_none() {
+    if case.message.is_none() {
+        let (rows, guesses) = rows::messages(&judge.set, judge.secret, judge.report);
+        list.extend(guesses.into_iter().map(|message| Candidate { message: (Message::Rows(rows), message), ..from.clone() }));
+    }
+    if case.salt.is_none() {
         list.extend(salts(from));
     }
-    if case.search && case.message.is_none() {
-        list.extend(messages(&kem.set, from));
+    if case.message.is_none() {
+        list.extend(messages(&judge.set, from));
     }
     list
 }
@@ -100,20 +117,18 @@ pub fn gather(kem: &mut Kem, case: &Case) -> Result<Gathered, Refusal> {
     let made = case.seed.as_ref().map(|seed| kem.keys(seed)).transpose()?;
     let key_file = made.as_ref().map(|keys| compare(&spans, &case.secret, &keys.secret));
     let secret = made.map_or_else(|| case.secret.clone(), |keys| keys.secret);
-    let public = secret[kem.set.public_in_secret()].to_vec();
     let opened = kem.open(&secret, &case.report)?;
     let (own, given) = candidates(kem, case, &opened);
 
-    let mut judge = Judge { kem, report: &case.report, public: &public };
+    let judge = Judge { set: kem.set, secret: &secret, report: &case.report };
     let mut best = judge.attempt(given.clone())?;
     let (mut own_closeness, mut searched) = (None, None);
     if closeness(&best.parts) == Closeness::Far {
         if case.message.is_some() || case.salt.is_some() {
             own_closeness = Some(closeness(&judge.attempt(own)?.parts));
         }
-        let list = around(judge.kem, case, &given);
-        if !list.is_empty() && own_closeness.unwrap_or(Closeness::Far) == Closeness::Far {
-            let (found, count) = judge.search(&list)?;
+        if case.search && own_closeness.unwrap_or(Closeness::Far) == Closeness::Far && (case.message.is_none() || case.salt.is_none()) {
+            let (found, count) = judge.search(&around(&judge, case, &given))?;
             searched = Some(count);
             best = found.unwrap_or(best);
         }

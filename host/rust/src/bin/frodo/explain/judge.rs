@@ -41,8 +41,7 @@ fn sealing(facts: &Facts) -> String {
         Message::Given => "the given message".to_string(),
         Message::Opened => "the message that the report opens to".to_string(),
         Message::Group(entry) => format!("the message that it opens to, with the group at row {}, column {} changed,", entry / 8, entry % 8),
-        Message::Rows(1) => "the message that it opens to when one word of c1 is put right".to_string(),
-        Message::Rows(rows) => format!("the message that it opens to when a word in each of {rows} rows of c1 is put right"),
+        Message::Rows(rows) => format!("the message that it opens to when the damage in {rows} of the 8 rows of c1 and c2 is undone"),
     };
     let salt = match facts.tried.salt {
         Salt::Given => "the given salt".to_string(),
@@ -121,7 +120,8 @@ fn damaged(facts: &Facts) -> Finding {
         let (differ, bytes) = tried.parts.iter().filter(|p| p.name != "salt").fold((0, 0), |(d, b), p| (d + p.differ, b + p.bytes));
         let text = "If this message and this salt are those that were sealed, what was made again is the sealed report in every byte, and its secret is the sealed one's.";
         let likely = format!(
-            "That they are: {} of {bytes} bytes of c1 and c2 agree. Sealings of another message or salt agree in a byte by chance only, 1 in 256.",
+            "That they are: {} of {bytes} bytes of c1 and c2 agree. Sealings of another message or salt agree in a byte by chance only, 1 in 256, \
+            which rests on SHAKE and is not proved.",
             bytes - differ
         );
         finding.because(Proved(RESEALED), text).because(Likely, likely)
@@ -194,7 +194,7 @@ fn undecided(facts: &Facts) -> Finding {
         causes.push("the secret key file is damaged, or the report was not sealed to this key");
     }
     finding = finding
-        .because(Proved(ACCEPTED), "Under a key that holds its own hash such bytes are not accepted: the secret that `frodo open` gives is nobody else's.")
+        .because(Proved(ACCEPTED), "Under a key that holds its own hash such bytes are not accepted: `frodo open` gives a secret that is drawn from the key's s.")
         .because(Open, format!("Which of these it is: {}.", causes.join("; ")));
     let missing: Vec<&str> = [(inputs.seed, "--seed"), (inputs.message, "--message"), (inputs.salt, "--salt")].iter().filter(|(given, _)| !given).map(|(_, f)| *f).collect();
     finding.because_if(!missing.is_empty(), Next, format!("{} would decide it.", missing.join(", ")))

@@ -3,6 +3,7 @@ mod facts;
 mod finding;
 mod gather;
 mod judge;
+mod rows;
 mod search;
 mod show;
 
@@ -25,8 +26,9 @@ pub const EXPLAIN: Command = Command {
     usage: &["--secret FILE --sealed FILE [--seed FILE] [--message FILE] [--salt FILE] [--repair --sealed-out FILE --key-out FILE]"],
     details: "\
 With seed, message and salt it is decided: key and report are made again and compared, and the margin says whether noise could have spoiled it.
-With the secret key alone, what the report opens to is sealed again with the report's own salt. Where that gives other bytes nearly everywhere, salts that
-differ in one bit and messages that differ in one group are tried as well, some hundreds of sealings; --no-search leaves that out.
+With the secret key alone, what the report opens to is sealed again with the report's own salt. Where that gives other bytes nearly everywhere, other sealings
+are tried, some hundreds to two thousand: damage of two neighbouring bytes in each of up to four rows of c1 and c2, one bit of the salt, one group of the message.
+That takes seconds; --no-search leaves it out.
 Each reason says whether it was seen in this run, is proved (by which theorem, in which file), or is only likely.
 With --repair the sealed report and its secret are written where they are known; the exit status is the verdict's all the same.",
     flags: &[

@@ -1,6 +1,6 @@
 //! A finding as text and as JSON.
 use super::facts::{Facts, Part};
-use super::finding::{Finding, Weight};
+use super::finding::{Finding, Verdict, Weight};
 use crate::commands::{margin_json, margin_text};
 use crate::json::Json;
 use crate::sets::Set;
@@ -38,7 +38,7 @@ fn part_line(part: &Part) -> String {
 /// The finding as a reader wants it; `facts` are there where the report has the right length.
 pub fn text(set: &Set, finding: &Finding, facts: Option<&Facts>) -> String {
     let mut text = format!("verdict: {}\n{}", finding.verdict.name(), wrapped(&finding.headline, 0));
-    if let Some(facts) = facts.filter(|f| f.tried.parts.iter().any(|p| p.differ > 0)) {
+    if let Some(facts) = facts.filter(|_| finding.verdict == Verdict::Damaged) {
         text += "\nwhere the report differs:\n";
         facts.tried.parts.iter().for_each(|part| text += &part_line(part));
     }
@@ -89,7 +89,7 @@ pub fn json(set: &Set, finding: &Finding, facts: Option<&Facts>) -> Vec<(&'stati
         ("verdict", Json::text(finding.verdict.name())),
         ("headline", Json::text(&finding.headline)),
         ("known", Json::Bool(finding.known)),
-        ("differences", facts.map_or(Json::Null, |f| list(&f.tried.parts, part_json))),
+        ("differences", facts.filter(|_| finding.verdict != Verdict::Undecided).map_or(Json::Null, |f| list(&f.tried.parts, part_json))),
         ("key_file", facts.and_then(|f| f.key_file.as_ref()).map_or(Json::Null, |parts| list(parts, key_json))),
         ("margin", facts.and_then(|f| f.margin).map_or(Json::Null, |m| margin_json(set, &m))),
         ("searched", facts.and_then(|f| f.searched).map_or(Json::Null, Json::Count)),
