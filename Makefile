@@ -1,10 +1,13 @@
 # make test     the whole gate: layout, proofs, must-fail edits, replayed answers; its last line is the prover's 'N passed, 0 failed'
 # make lib      dist/libfrodo_c.a and dist/frodo.h, for C and Rust to link
 # make host     the Rust crate's tests and the C example, over dist/
+# make demo     a crash report sealed, opened, damaged, explained and repaired by the frodo program
+# make cli      the frodo program's commands as a user types them, each with its status and words
 # make bench    speed beside other code, as ratios
 # make oracle   builds frodo-kem-rs from its own source (FRODO_KEM_RS names its folder), for the lists in tests/lists
 # make lists    makes the lists of answers again: wants the oracle
-.PHONY: test lib host bench oracle lists clean
+# make frodo    the program itself, build/rust/release/frodo
+.PHONY: test lib host frodo demo cli bench oracle lists clean
 
 CFLAGS = -std=c11 -D_GNU_SOURCE -O2 -Wall -Wextra -Werror
 
@@ -23,6 +26,15 @@ host: lib
 	mkdir -p build
 	$(CC) $(CFLAGS) -I dist examples/c/seal.c dist/libfrodo_c.a -o build/seal
 	build/seal
+
+frodo: lib
+	cd host/rust && CARGO_TARGET_DIR=$(CURDIR)/build/rust cargo build --offline --release --bin frodo
+
+demo: frodo
+	examples/demo build/rust/release/frodo
+
+cli: frodo
+	tests/cli/run build/rust/release/frodo
 
 bench:
 	rt staticlib bench_c

@@ -118,7 +118,8 @@ fn damaged(facts: &Facts) -> Finding {
         finding.because(Proved(ENCAPS_ONE), "Public key, message and salt fix every byte of the sealed report, and these are not all of them.")
     } else {
         let (differ, bytes) = tried.parts.iter().filter(|p| p.name != "salt").fold((0, 0), |(d, b), p| (d + p.differ, b + p.bytes));
-        let text = "If this message and this salt are those that were sealed, what was made again is the sealed report in every byte, and its secret is the sealed one's.";
+        let text = "Under a key as it was generated: if this message and this salt are those that were sealed, what was made again is the sealed report in every byte, \
+            and its secret is the sealed one's.";
         let likely = format!(
             "That they are: {} of {bytes} bytes of c1 and c2 agree. Sealings of another message or salt agree in a byte by chance only, 1 in 256, \
             which rests on SHAKE and is not proved.",
