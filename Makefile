@@ -2,6 +2,9 @@
 #                     'N passed, 0 failed'
 # make lib            the library: dist/libfrodo_c.a and dist/frodo.h
 # make host           the Rust crate's tests, the C example and README's
+# make demo           a crash report sealed, opened, damaged, explained and repaired by the frodo program
+# make frodo          the program itself, build/rust/release/frodo
+# make cli            the program's commands as a user types them, each with its status and words
 # make stack          the stack that each call takes
 # make signal         a process with a broken heap seals its report in a signal handler; another process opens it
 # make hostile        guard pages, wrong lengths and sets, unset memory
@@ -9,7 +12,7 @@
 # make bench          speed beside other code, as ratios
 # make oracle         builds frodo-kem-rs from its own source (FRODO_KEM_RS names its folder), for the lists in tests/lists
 # make lists          makes the lists of answers again: wants the oracle
-.PHONY: test layout prove lib host stack signal hostile side-by-side bench oracle lists clean
+.PHONY: test layout prove lib host frodo demo cli stack signal hostile side-by-side bench oracle lists clean
 .NOTPARALLEL:
 
 SHELL = /bin/bash -o pipefail
@@ -17,7 +20,7 @@ CFLAGS = -std=c11 -D_GNU_SOURCE -O2 -g -Wall -Wextra -Werror
 # Bound when the program starts: a memcpy that is bound at its first use runs the dynamic linker on the caller's stack.
 LDFLAGS = -Wl,-z,now
 
-test: layout prove host stack signal hostile side-by-side
+test: layout prove host cli stack signal hostile side-by-side
 	@echo "the library's tests have passed; the prover had said:"
 	@tail -n 1 build/ci.log
 
@@ -47,6 +50,15 @@ host: lib
 	$(CC) $(CFLAGS) -Idist examples/c/seal.c dist/libfrodo_c.a $(LDFLAGS) -o build/seal
 	build/seal
 	tests/readme/run
+
+frodo: lib
+	cd host/rust && CARGO_TARGET_DIR=$(CURDIR)/build/rust cargo build --offline --release --bin frodo
+
+demo: frodo
+	examples/demo build/rust/release/frodo
+
+cli: frodo
+	tests/cli/run build/rust/release/frodo
 
 stack: build/stack/stack
 	build/stack/stack
