@@ -1,0 +1,2 @@
+-- The third demand of the calls.
+pub mod RoundTrip
