@@ -3,10 +3,9 @@
 --     squeezes     `squeeze` or `squeeze_words`, with the slice that is written: its last list is what the sponge gives, and the sponge is after it
 -- Each is a step of `types.Kit`'s calculus, at any code around the call. Before it the sponge lies at the head of the context, and then what else the callee is handed. Assumes
 -- `Given`.
-use Rattle.walks.proofs.Kit.{length, _≡_, refl, [], _∷_, List, ℕ, URA, fullShare, Lifetime, Place, Body, Opd, Name, named, seq, call, Val, vunit, vptr, ent, sep, id⊢, GName}
-use Rattle.walks.proofs.Kit.{Lft, Share, Fml, ftrue, fsep, flft, flent, Heap, Env, Calls, Loops, Atoms, sem, fact, Given, Item, Seq, Post, runs, lands, ‵, raw, ⋆, _⊛_, _$_, _∵_}
-use Rattle.walks.proofs.Kit.{ !, qed}
-use Rattle.walks.proofs.Kit.{move, drop, group, use1, use2, split, join, rewrite, fsplit, fjoin, feqL, frame, done, FmC, mem, nothing-lawful, UInt, u8, RefT, now, ShrSlice}
+use Rattle.walks.proofs.Kit.{length, _≡_, refl, [], _∷_, List, ℕ, URA, fullShare, Lifetime, Place, Body, Opd, Name, named, seq, call, Val, vunit, vptr, ent, sep, id⊢, GName, Lft}
+use Rattle.walks.proofs.Kit.{Share, Fml, ftrue, fsep, flft, flent, Heap, Env, Calls, Loops, Atoms, sem, fact, Given, Item, Seq, Post, runs, lands, ‵, raw, ⋆, _⊛_, _$_, _∵_, ! }
+use Rattle.walks.proofs.Kit.{qed, move, drop, group, use1, use2, split, join, rewrite, fsplit, fjoin, feqL, frame, done, FmC, mem, nothing-lawful, UInt, u8, RefT, now, ShrSlice}
 use Rattle.walks.proofs.Kit.{MutSlice, finally, shr-slice-copy, nothing, Contract, Triple, calls-at, tripleOf, Clauses, closing, says}
 use lib.Dec.{T as Holds}
 use mir.Syntax.{tyUnit}
@@ -24,7 +23,7 @@ use Rattle.sponge.proofs.finish.Key as finish-key
 use Rattle.sponge.proofs.Row.{R, v}
 use Rattle.sponge.proofs.Squeezes.{Way, lent, said, Said, Lent}
 
--- a callee hands back nothing: the value is of its type
+-- the value of a callee that hands back nothing is of its type
 abbrev Nothing : Val → Type 0
 Nothing u = Holds (hasTy tyUnit u) × WT u
 

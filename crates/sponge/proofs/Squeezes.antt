@@ -1,22 +1,20 @@
 -- Both functions that squeeze a lent sponge into a slice. The borrow is opened, the sponge is copied out, the function that takes it by value is called, and what that returned
 -- is stored and the borrow closed at it.
 -- The MIR of the two differs in the callee's name and in the width of an element, and their contracts in a `Way`, so one walk serves both.
---     Way              the width of an element, what is asked of the sponge, the elements that n of them are, and the sponge afterwards
+--     Way              the width of an element, what is asked of the sponge, the n elements that it gives, and the sponge after them
 --     code K g         the MIR of such a function that calls g
 --     asked, said      the clauses of g, and of the function
 --     squeeze-meets    where g meets its contract, the function meets its own
 -- Assumes nothing.
 use Prim.Native.Nat.{_*_}
-use Rattle.walks.proofs.Kit.{length, _≡_, refl, [], _∷_, List, ℕ, URA, Width, Name, Fn, named, erased, mut, w8, w16, tyRef, tyInt, tyUnit, local, valueLocal, place, field}
-use Rattle.walks.proofs.Kit.{deref, copy, rvOpd, opdUnit, addrOf, aggregate, seq, assign, call, return, Val, vunit, vptr, SProp, ent, id⊢, GName, Lft, Share, Fml, ftrue, fsep}
-use Rattle.walks.proofs.Kit.{flft}
-use Rattle.walks.proofs.Kit.{Heap, Calls, Loops, WpFn, Tables, Atoms, fact, Given, ‵, raw, ⋆, _⊛_, _$_, _∵_, !, qed, by, move, keep, drop, use3, split, join, fsplit, fjoin}
-use Rattle.walks.proofs.Kit.{feqL, feqI, suffices, frame, done, look, look-raw, init, store-raw, forget, stop, hop, fld, from, load, addr, agg, whole, sub, look-in, unit-lit}
-use Rattle.walks.proofs.Kit.{of-opd, and-then, no-more, assigns, land, returns, enter}
-use Rattle.walks.proofs.Kit.{alloc1, alloc0, params1, pass1, pass0, free1, free0, UInt, unit, yes, sliceTy, MutSlice, Room, finally, slice-vals, mut-slice-tells, gave-slice}
-use Rattle.walks.proofs.Kit.{goes-gave-slice, FmC, fmOf, WpFn-mono, owns, Is, shows, pointee, RefT, now, MutRef, ptr-vals, mut-tells, plain, mutRefTo, mutSliceOf, peeks}
-use Rattle.walks.proofs.Kit.{nothing, Contract, Triple}
-use Rattle.walks.proofs.Kit.{calls-at, onEntry, Meets, tripleOf, Ended, Clauses, closing, says, needs, Stays, stay-ref, walkOf, goes-ref, ends-at, walked, walk-meets}
+use Rattle.walks.proofs.Kit.{length, _≡_, refl, [], _∷_, List, ℕ, URA, Width, Name, Fn, named, erased, mut, w8, w16, tyRef, tyInt, tyUnit, local, valueLocal, place, field, deref}
+use Rattle.walks.proofs.Kit.{copy, rvOpd, opdUnit, addrOf, aggregate, seq, assign, call, return, Val, vunit, vptr, SProp, ent, id⊢, GName, Lft, Share, Fml, ftrue, fsep, flft}
+use Rattle.walks.proofs.Kit.{Heap, Calls, Loops, WpFn, Tables, Atoms, fact, Given, ‵, raw, ⋆, _⊛_, _$_, _∵_, !, qed, by, move, keep, drop, use3, split, join, fsplit, fjoin, feqL}
+use Rattle.walks.proofs.Kit.{feqI, suffices, frame, done, look, look-raw, init, store-raw, forget, stop, hop, fld, from, load, addr, agg, whole, sub, look-in, unit-lit, of-opd}
+use Rattle.walks.proofs.Kit.{and-then, no-more, assigns, land, returns, enter, alloc1, alloc0, params1, pass1, pass0, free1, free0, UInt, unit, yes, sliceTy, MutSlice, Room}
+use Rattle.walks.proofs.Kit.{finally, slice-vals, mut-slice-tells, gave-slice, goes-gave-slice, FmC, fmOf, WpFn-mono, owns, Is, shows, pointee, RefT, now, MutRef, ptr-vals}
+use Rattle.walks.proofs.Kit.{mut-tells, plain, mutRefTo, mutSliceOf, peeks, nothing, Contract, Triple, calls-at, onEntry, Meets, tripleOf, Ended, Clauses, closing, says, needs}
+use Rattle.walks.proofs.Kit.{Stays, stay-ref, walkOf, goes-ref, ends-at, walked, walk-meets}
 use Rattle.walks.proofs.Answer.{answered}
 use Rattle.walks.proofs.Lent.{refAt, opened, closed}
 use Rattle.bits.specs.Little.{wordsOf}

@@ -10,13 +10,11 @@ use Prim.Native.Nat.{_%_, _≤_, _<_, _^_}
 use native.Mathlib.Omega.{arith}
 use Rattle.walks.proofs.Kit.{length, _≡_, refl, [], _∷_, List, ℕ, URA, fullShare, Lifetime, Name, Fn, named, erased, imm, mut, w8, w64, tyRef, tyInt, tyUnit, local, valueLocal}
 use Rattle.walks.proofs.Kit.{memorySlot, place, field, deref, copy, rvOpd, opdUnit, addrOf, aggregate, seq, assign, call, return, Val, vunit, vint, SProp, ent, emp, id⊢, Lft}
-use Rattle.walks.proofs.Kit.{Share, ftrue, fat, flft}
-use Rattle.walks.proofs.Kit.{Heap, Calls, Loops, WpFn, Tables, Atoms, fact, Given, Item, ‵, raw, ⋆, _⊛_, _$_, _∵_, !, qed, by, move, keep, drop, use0, use1, use2, split, join}
-use Rattle.walks.proofs.Kit.{rewrite, fsplit, fjoin, feqI, suffices, frame, done, look, init, store, forget, stop, hop, fld, from, load, addr, agg, whole, sub, look-in}
-use Rattle.walks.proofs.Kit.{unit-lit, of-opd, and-then, no-more, assigns, land, returns, enter}
-use Rattle.walks.proofs.Kit.{alloc1, alloc0, params1, pass1, pass0, free1, free0, FmC, fmOf, WpFn-mono, owns, Is, shows, mem, cellAt, pointee, uint-vals, uint-tells, uint-makes}
-use Rattle.walks.proofs.Kit.{UInt, u8, usize, unit, yes, RefT, now, sliceTy, ShrSlice, MutSlice, Room, finally, slice-vals, shr-slice-tells, shr-slice-lawful, mut-slice-tells}
-use Rattle.walks.proofs.Kit.{plain, shrSliceOf, mutSliceOf, only, owned, peeks, nothing}
+use Rattle.walks.proofs.Kit.{Share, ftrue, fat, flft, Heap, Calls, Loops, WpFn, Tables, Atoms, fact, Given, Item, ‵, raw, ⋆, _⊛_, _$_, _∵_, !, qed, by, move, keep, drop, use0}
+use Rattle.walks.proofs.Kit.{use1, use2, split, join, rewrite, fsplit, fjoin, feqI, suffices, frame, done, look, init, store, forget, stop, hop, fld, from, load, addr, agg}
+use Rattle.walks.proofs.Kit.{whole, sub, look-in, unit-lit, of-opd, and-then, no-more, assigns, land, returns, enter, alloc1, alloc0, params1, pass1, pass0, free1, free0, FmC}
+use Rattle.walks.proofs.Kit.{fmOf, WpFn-mono, owns, Is, shows, mem, cellAt, pointee, uint-vals, uint-tells, uint-makes, UInt, u8, usize, unit, yes, RefT, now, sliceTy, ShrSlice}
+use Rattle.walks.proofs.Kit.{MutSlice, Room, finally, slice-vals, shr-slice-tells, shr-slice-lawful, mut-slice-tells, plain, shrSliceOf, mutSliceOf, only, owned, peeks, nothing}
 use Rattle.walks.proofs.Kit.{Contract, Triple, calls-at, onEntry, Meets, tripleOf, Ended, Clauses, closing, says, needs, Stays, stay-none, stay-none-slice, gave-slice, walkOf}
 use Rattle.walks.proofs.Kit.{goes-none, goes-none-slice, goes-gave-slice, ends-at, walked, walk-meets}
 use mir.Syntax.{Ty, Local}

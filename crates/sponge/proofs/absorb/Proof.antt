@@ -1,13 +1,12 @@
 -- `sponge::absorb` meets its contract: a walk of its MIR, by hand. The borrow is opened, the sponge is copied out, the function that takes it by value is called,
 -- and what that returned is stored and the borrow closed at it. Assumes nothing.
 use Rattle.walks.proofs.Kit.{_≡_, refl, [], _∷_, List, ℕ, URA, named, Val, vunit, vptr, SProp, ent, id⊢, GName, Lft, Share, ftrue, flft, Memory, Routine, Heap, Calls, Loops}
-use Rattle.walks.proofs.Kit.{WpFn, Tables, Atoms, sem, Fun, givenOf, tables, tablesOf}
-use Rattle.walks.proofs.Kit.{fsep, Fml, sep, drop, use2, use3, Given, ‵, raw, ⋆, _⊛_, _$_, _∵_, !, qed, by, move, use1, split, join, fsplit, fjoin, feqI, suffices, frame, done}
-use Rattle.walks.proofs.Kit.{look, look-raw, init, store-raw, forget, stop, hop, from, load, unit-lit, of-opd, and-then, no-more, assigns, land, returns, enter, alloc1, alloc0}
-use Rattle.walks.proofs.Kit.{params1, pass1, pass0, free1, free0}
-use Rattle.walks.proofs.Kit.{u8, yes, ShrSlice, slice-vals, shr-slice-tells, shr-slice-lawful, shr-slice-copy, stay-none-slice, goes-none-slice, FmC, fmOf, WpFn-mono, owns, Is}
-use Rattle.walks.proofs.Kit.{shows, RefT, MutRef, ptr-vals, mut-tells, plain, peeks, nothing, Contract, Triple, calls-at, onEntry, Meets, tripleOf, entered, cited, says, needs}
-use Rattle.walks.proofs.Kit.{Stays, stay-ref, walkOf, goes-ref, ends-at, walked, walk-meets}
+use Rattle.walks.proofs.Kit.{WpFn, Tables, Atoms, sem, Fun, givenOf, tables, tablesOf, fsep, Fml, sep, drop, use2, use3, Given, ‵, raw, ⋆, _⊛_, _$_, _∵_, !, qed, by, move, use1}
+use Rattle.walks.proofs.Kit.{split, join, fsplit, fjoin, feqI, suffices, frame, done, look, look-raw, init, store-raw, forget, stop, hop, from, load, unit-lit, of-opd, and-then}
+use Rattle.walks.proofs.Kit.{no-more, assigns, land, returns, enter, alloc1, alloc0, params1, pass1, pass0, free1, free0, u8, yes, ShrSlice, slice-vals, shr-slice-tells}
+use Rattle.walks.proofs.Kit.{shr-slice-lawful, shr-slice-copy, stay-none-slice, goes-none-slice, FmC, fmOf, WpFn-mono, owns, Is, shows, RefT, MutRef, ptr-vals, mut-tells, plain}
+use Rattle.walks.proofs.Kit.{peeks, nothing, Contract, Triple, calls-at, onEntry, Meets, tripleOf, entered, cited, says, needs, Stays, stay-ref, walkOf, goes-ref, ends-at}
+use Rattle.walks.proofs.Kit.{walked, walk-meets}
 use Rattle.walks.proofs.Answer.{answered}
 use Rattle.walks.proofs.Lent.{refAt, opened, closed}
 use Rattle.shake.specs.Sponge.{Ready, absorbBytes}

@@ -1,12 +1,11 @@
 -- `sponge::finish` meets its contract: a walk of its MIR, by hand. The borrow is opened, the sponge is copied out, the function that takes it by value is called,
 -- and what that returned is stored and the borrow closed at it. Assumes nothing.
 use Rattle.walks.proofs.Kit.{_≡_, refl, [], _∷_, List, ℕ, URA, named, Val, vunit, vptr, SProp, ent, id⊢, GName, Lft, Share, ftrue, flft, Memory, Routine, Heap, Calls, Loops}
-use Rattle.walks.proofs.Kit.{WpFn, Tables, Atoms, sem, Fun, givenOf, tables, tablesOf}
-use Rattle.walks.proofs.Kit.{Given, ‵, raw, ⋆, _⊛_, _$_, _∵_, !, qed, by, move, keep, use1, split, join, fsplit, fjoin, feqI, suffices, frame, done, look, look-raw, init}
-use Rattle.walks.proofs.Kit.{store-raw, forget, stop, hop, from, load, unit-lit, of-opd, and-then, no-more, assigns, land, returns, enter, alloc1, alloc0, params1, pass1, pass0}
-use Rattle.walks.proofs.Kit.{free1, free0}
-use Rattle.walks.proofs.Kit.{FmC, fmOf, WpFn-mono, owns, Is, shows, RefT, MutRef, ptr-vals, mut-tells, plain, peeks, nothing, Contract, Triple, calls-at, onEntry, Meets}
-use Rattle.walks.proofs.Kit.{tripleOf, entered, cited, says, needs, Stays, stay-ref, walkOf, goes-ref, ends-at, walked, walk-meets}
+use Rattle.walks.proofs.Kit.{WpFn, Tables, Atoms, sem, Fun, givenOf, tables, tablesOf, Given, ‵, raw, ⋆, _⊛_, _$_, _∵_, !, qed, by, move, keep, use1, split, join, fsplit, fjoin}
+use Rattle.walks.proofs.Kit.{feqI, suffices, frame, done, look, look-raw, init, store-raw, forget, stop, hop, from, load, unit-lit, of-opd, and-then, no-more, assigns, land}
+use Rattle.walks.proofs.Kit.{returns, enter, alloc1, alloc0, params1, pass1, pass0, free1, free0, FmC, fmOf, WpFn-mono, owns, Is, shows, RefT, MutRef, ptr-vals, mut-tells, plain}
+use Rattle.walks.proofs.Kit.{peeks, nothing, Contract, Triple, calls-at, onEntry, Meets, tripleOf, entered, cited, says, needs, Stays, stay-ref, walkOf, goes-ref, ends-at}
+use Rattle.walks.proofs.Kit.{walked, walk-meets}
 use Rattle.walks.proofs.Answer.{answered}
 use Rattle.walks.proofs.Lent.{refAt, opened, closed}
 use Rattle.shake.specs.Sponge.{Ready, finished}
