@@ -5,8 +5,8 @@
     open SET SEED MSG SALT KIND PLACE BITS SS MSG      what decapsulation gives after damage
     margin SET SEED MSG SALT SIZE             the largest size of a centred entry of S'E + E'' - E'S
 
-KIND is none; ct or sk, the byte at PLACE of the ciphertext or of the secret key with BITS exclusive-ored in; allct or allsk, every byte of
-it replaced by SHAKE128 over PLACE, SEED and MSG. PLACE and SIZE are three bytes, big-endian. A digest is 16 bytes of SHAKE256.
+KIND is 0, no damage; 1 or 2, the byte at PLACE of the ciphertext or of the secret key with BITS exclusive-ored in; 3 or 4, every byte of
+it replaced by SHAKE128 over SEED. PLACE and SIZE are two bytes, big-endian. A digest is 16 bytes of SHAKE256.
 The crate has no margin: sizes are computed here from the proposal, with hashlib's SHAKE and whole numbers. Only the public key is the oracle's."""
 import hashlib
 from oracle import D, N, Oracle, SECRET, SEED_SE, digest, random, unwords, write
@@ -66,28 +66,28 @@ for s in (1, 2, 3):
         ct, ss = (bytes.fromhex(x) for x in oracle.ask("encaps", s, pk.hex(), msg.hex(), salt.hex()))
         front = f"{s} {seed.hex()} {msg.hex()} {salt.hex()}"
         lines.append(f"{front} {digest(pk)} {digest(sk)} {digest(ct)} {ss.hex()}")
-        lines.append(f"margin {front} {largest_size(s, seed, pk, msg, salt).to_bytes(3, 'big').hex()}")
+        lines.append(f"margin {front} {largest_size(s, seed, pk, msg, salt).to_bytes(2, 'big').hex()}")
 
         def place(label, start, size):
             return start + int.from_bytes(random(f"{label} {s} {k}", 4), "big") % size
 
-        damage = [("none", 0, 0), ("ct", place("c1", 0, c1), 1 << k % 8), ("ct", place("c2", c1, c2), 1 << (k + 3) % 8), ("ct", place("salt", c1 + c2, len(salt)), 1 << (k + 5) % 8),
-                  ("sk", place("s", 0, secret), 0xFF), ("sk", place("seedA", secret, 16), 1), ("sk", place("B", secret + 16, pk_size - 16), 0x40),
-                  ("sk", s_at + 2 * place("S", 0, 8 * n) + 1, 0x80), ("sk", s_at + 2 * place("low S", 0, 8 * n), 1), ("sk", place("pkh", pkh_at, secret), 0x10),
-                  ("allct", k, 0), ("allsk", k, 0)]
+        damage = [(0, 0, 0), (1, place("c1", 0, c1), 1 << k % 8), (1, place("c2", c1, c2), 1 << (k + 3) % 8), (1, place("salt", c1 + c2, len(salt)), 1 << (k + 5) % 8),
+                  (2, place("s", 0, secret), 0xFF), (2, place("seedA", secret, 16), 1), (2, place("B", secret + 16, pk_size - 16), 0x40),
+                  (2, s_at + 2 * place("S", 0, 8 * n) + 1, 0x80), (2, s_at + 2 * place("low S", 0, 8 * n), 1), (2, place("pkh", pkh_at, secret), 0x10),
+                  (3, 0, 0), (4, 0, 0)]
         for kind, at, bits in damage:
             key, sealed = bytearray(sk), bytearray(ct)
-            where = at.to_bytes(3, "big")
-            if kind in ("ct", "sk"):
-                (sealed if kind == "ct" else key)[at] ^= bits
-            elif kind == "allct":
-                sealed = hashlib.shake_128(where + seed + msg).digest(len(ct))
-            elif kind == "allsk":
-                key = hashlib.shake_128(where + seed + msg).digest(len(sk))
+            where = at.to_bytes(2, "big")
+            if kind in (1, 2):
+                (sealed if kind == 1 else key)[at] ^= bits
+            elif kind == 3:
+                sealed = hashlib.shake_128(seed).digest(len(ct))
+            elif kind == 4:
+                key = hashlib.shake_128(seed).digest(len(sk))
             got, message = oracle.ask("decaps", s, bytes(key).hex(), bytes(sealed).hex())
             (alone,) = oracle.ask("decaps_ss", s, bytes(key).hex(), bytes(sealed).hex())
             if alone != got:
-                raise SystemExit(f"set {s} seed {k} {kind}: the crate's two decapsulations part")
+                raise SystemExit(f"set {s} seed {k} damage {kind}: the crate's two decapsulations part")
             lines.append(f"open {front} {kind} {where.hex()} {bits:02x} {got} {message}")
     print(f"set {s} done")
 

@@ -7,10 +7,10 @@ use Rattle.replay_kem.proofs.lines.Statement.{statement}
 use Rattle.replay_kem.proofs.lines.Tie as tie
 
 abbrev Inv-loop : tie.InvT-loop
-Inv-loop list text command tally₀ at₀ line₀ tally at line = at ≤ length text
+Inv-loop list text command tally₀ at₀ number₀ tally at number = at ≤ length text
 
 abbrev μ-loop : tie.MeasureT-loop
-μ-loop list text command tally₀ at₀ line₀ tally at line = length text - at
+μ-loop list text command tally₀ at₀ number₀ tally at number = length text - at
 
 pub lines-spec : {M : Type 1} → statement M
 lines-spec =

@@ -5,8 +5,8 @@ use native.Mathlib.Omega.{arith}
 use Prim.Native.Nat.{_≤_, _-_}
 use mathlib.Core.Path.{_≡_}
 use lib.ListN.{length}
-use Rattle.replay_kem.proofs.all_bytes.Statement.{statement}
-use Rattle.replay_kem.proofs.all_bytes.Tie as tie
+use Rattle.replay_calls.proofs.all_bytes.Statement.{statement}
+use Rattle.replay_calls.proofs.all_bytes.Tie as tie
 
 abbrev Inv-loop : tie.InvT-loop
 Inv-loop bytes byte i₀ i-end i = (i ≤ i-end) × (i-end ≡ length bytes)

@@ -5,8 +5,8 @@ use native.Mathlib.Omega.{arith}
 use Prim.Native.Nat.{_≤_, _-_}
 use mathlib.Core.Path.{_≡_}
 use lib.ListN.{length}
-use Rattle.replay_kem.proofs.wiped.Statement.{statement}
-use Rattle.replay_kem.proofs.wiped.Tie as tie
+use Rattle.replay_calls.proofs.wiped.Statement.{statement}
+use Rattle.replay_calls.proofs.wiped.Tie as tie
 
 abbrev Inv-loop : tie.InvT-loop
 Inv-loop words k i₀ i-end i = (i ≤ i-end) × (i-end ≡ length words)
