@@ -1,7 +1,10 @@
-# make test           the whole gate: layout, the library and the tests over it below, then proofs, must-fail edits and replayed answers; its last line is the
-#                     prover's 'N passed, 0 failed'
-# make lib            dist/libfrodo_c.a and dist/frodo.h, for C and Rust to link
-# make host           the Rust crate's tests and the C example, over dist/
+# make test           the whole gate: layout, proofs, must-fail edits, replayed answers, then the tests on the library below; its last line is the prover's
+#                     'N passed, 0 failed'
+# make lib            the library: dist/libfrodo_c.a and dist/frodo.h
+# make host           the Rust crate's tests, the C example and README's
+# make demo           a crash report sealed, opened, damaged, explained and repaired by the frodo program
+# make frodo          the program itself, build/rust/release/frodo
+# make cli            the program's commands as a user types them, each with its status and words
 # make stack          the stack that each call takes
 # make signal         a process with a broken heap seals its report in a signal handler; another process opens it
 # make hostile        guard pages, wrong lengths and sets, unset memory
@@ -9,18 +12,25 @@
 # make bench          speed beside other code, as ratios
 # make oracle         builds frodo-kem-rs from its own source (FRODO_KEM_RS names its folder), for the lists in tests/lists
 # make lists          makes the lists of answers again: wants the oracle
-.PHONY: test layout lib host stack signal hostile side-by-side bench oracle lists clean
+.PHONY: test layout prove lib host frodo demo cli stack signal hostile side-by-side bench oracle lists clean
 .NOTPARALLEL:
 
+SHELL = /bin/bash -o pipefail
 CFLAGS = -std=c11 -D_GNU_SOURCE -O2 -g -Wall -Wextra -Werror
 # Bound when the program starts: a memcpy that is bound at its first use runs the dynamic linker on the caller's stack.
 LDFLAGS = -Wl,-z,now
 
-test: layout lib host stack signal hostile side-by-side
-	rt ci
+test: layout prove host cli stack signal hostile side-by-side
+	@echo "the library's tests have passed; the prover had said:"
+	@tail -n 1 build/ci.log
 
 layout:
 	rt fmt --check
+
+# From nothing; what it proved is then compiled and not proved again.
+prove:
+	mkdir -p build
+	rt ci | tee build/ci.log
 
 lib:
 	rt staticlib frodo_c
@@ -28,17 +38,27 @@ lib:
 	cp target/staticlib/libfrodo_c.a include/frodo.h dist/
 	tests/lib/check dist/libfrodo_c.a
 
+build/%: tests/%.c tests/lengths.h dist/libfrodo_c.a dist/frodo.h
+	mkdir -p $(@D)
+	$(CC) $(CFLAGS) -Idist $< dist/libfrodo_c.a $(LDFLAGS) -o $@
+
 dist/libfrodo_c.a dist/frodo.h: lib
 
 host: lib
 	cd host/rust && CARGO_TARGET_DIR=$(CURDIR)/build/rust cargo test --offline --quiet
 	mkdir -p build
-	$(CC) $(CFLAGS) -I dist examples/c/seal.c dist/libfrodo_c.a -o build/seal
+	$(CC) $(CFLAGS) -Idist examples/c/seal.c dist/libfrodo_c.a $(LDFLAGS) -o build/seal
 	build/seal
+	tests/readme/run
 
-build/%: tests/%.c tests/lengths.h dist/libfrodo_c.a dist/frodo.h
-	mkdir -p $(@D)
-	$(CC) $(CFLAGS) -I dist $< dist/libfrodo_c.a $(LDFLAGS) -o $@
+frodo: lib
+	cd host/rust && CARGO_TARGET_DIR=$(CURDIR)/build/rust cargo build --offline --release --bin frodo
+
+demo: frodo
+	examples/demo build/rust/release/frodo
+
+cli: frodo
+	tests/cli/run build/rust/release/frodo
 
 stack: build/stack/stack
 	build/stack/stack

@@ -2,6 +2,7 @@
  *
  * All memory is static: nothing here or in the library touches the heap. The seed, the message and the salt come from the system; in a crash handler the
  * public key is compiled in, and message and salt are drawn before anything has gone wrong. */
+#define _DEFAULT_SOURCE
 #include "frodo.h"
 #include <stdio.h>
 #include <string.h>

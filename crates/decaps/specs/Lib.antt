@@ -1,2 +1,2 @@
--- What decapsulation asks and leaves.
+-- What decapsulation leaves.
 pub mod Made

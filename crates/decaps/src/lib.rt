@@ -1,94 +1,25 @@
 // Decapsulation (document 01, module 10) in lent memory, for lengths that the caller has tested. The stored pkh is used as it stands.
-use codec::unpack;
+use agreement::both_agree;
+use ciphertext::salt_of;
 use hashes::hash2;
 use hashes::hash3;
 use opening::ct_select;
-use opening::ct_verify;
 use opening::open_message;
-use rows::mask;
-use sealing::masks;
-use sealing::values;
 use sets::Params;
-use words::mask_words;
 use words::zero_words;
 ghost use mathlib.Core.Path.{_≡_};
 ghost use mathlib.Core.Bool.{cond};
 ghost use mathlib.Core.List.{_++_};
-ghost use Prim.Native.Nat.{_+_, _*_, _≤_};
+ghost use Prim.Native.Nat.{_+_, _≤_};
 ghost use lib.Dec.{eqb};
-ghost use lib.ListN.{length, take, drop};
-ghost use Rattle.lists.specs.Lists.{residues, equal};
+ghost use lib.ListN.{length};
 ghost use Rattle.sets.specs.Sets.{Valid};
-ghost use Rattle.codec.specs.Pack.{unpacked};
 ghost use Rattle.lengths.specs.Sized.{DecapsSized, DecapsSecretSized};
 ghost use Rattle.scheme.specs.Parts.{hash};
-ghost use Rattle.scheme.specs.Encaps.{draw, encSeedSE};
-ghost use Rattle.scheme.specs.Decaps.{skPkh, ctSalt, agrees, decapsK, decapsMessage, decapsSecret};
-ghost use Rattle.sealing.specs.Sealing.{maskNoise, maskC};
-ghost use Rattle.opening.specs.Opening.{bit};
-ghost use Rattle.decaps.specs.Made.{AgainSized, MasksCompared, DecapsMade, DecapsSecretMade};
-
-// Whether c1 holds S'*A + E' mod q: 1, or else 0. noise: S', B' of c1 in the place of E', E''.
-fn masks_agree(
-    p: Params,
-    seed: &[u8],
-    c1: &[u8],
-    seedse: &[u8],
-    noise: &mut [u16],
-    work: &mut [u16],
-) -> u8
-    requires { ⌜ Valid p × (length (now c1) ≡ p .d * p .n) × (length (now noise) ≡ 16 * p .n + 64) × (length (now work) ≡ 8 * p .n) ⌝ }
-    ensures { λ r. ⌜ MasksCompared p (now (seed .entry)) (now (c1 .entry)) (maskNoise p (now (seedse .entry))) (now (noise .exit)) r ⌝ }
-{
-    let m = 8 * p.n;
-    let e = 16 * p.n;
-    masks(p, seed, seedse, noise, work);
-    let q_mask = mask(p);
-    mask_words(work, q_mask);
-    unpack(p.d, c1, &mut noise[m..e]);
-    ct_verify(work, &noise[m..e])
-}
-
-// Whether c2 holds S'*B + E'' + the encoded message mod q. b is the packed B; S' and E'' stand in noise.
-fn values_agree(
-    p: Params,
-    b: &[u8],
-    c2: &[u8],
-    msg: &[u8],
-    noise: &mut [u16],
-    work: &mut [u16],
-) -> u8
-    requires { ⌜ Valid p × (length (now b) ≡ p .d * p .n) × (length (now c2) ≡ p .d * 8) × (length (now msg) ≡ 8 * p .b) × (length (now noise) ≡ 16 * p .n + 64) × (length (now work) ≡ 64) ⌝ }
-    ensures { λ r. ⌜ r ≡ bit (equal (residues (p .q) (maskC p (now (b .entry)) (now (msg .entry)) (take (8 * p .n) (now (noise .entry))) (drop (16 * p .n) (now (noise .entry))))) (unpacked (p .d) (now (c2 .entry)))) ⌝ }
-{
-    values(p, b, msg, noise, work);
-    unpack(p.d, c2, &mut noise[0..64]);
-    ct_verify(work, &noise[0..64])
-}
-
-// Whether encapsulation of the message, redone from seedSE', gives both matrices of the ciphertext.
-fn both_agree(
-    p: Params,
-    sk: &[u8],
-    ct: &[u8],
-    msg: &[u8],
-    seedse: &[u8],
-    noise: &mut [u16],
-    work: &mut [u16],
-) -> u8
-    requires { ⌜ AgainSized p (length (now sk)) (length (now ct)) (length (now msg)) (length (now noise)) (length (now work))
-        × (now seedse ≡ encSeedSE p (skPkh p (now sk)) (now msg) (ctSalt p (now ct))) ⌝ }
-    ensures { λ r. ⌜ r ≡ bit (agrees p (now (sk .entry)) (now (ct .entry)) (now (msg .entry))) ⌝ }
-{
-    let a = p.secret;
-    let b = a + 16;
-    let e = a + p.pk;
-    let c1 = p.d * p.n;
-    let c2 = c1 + p.d * 8;
-    let masked = masks_agree(p, &sk[a..b], &ct[0..c1], seedse, noise, work);
-    let valued = values_agree(p, &sk[b..e], &ct[c1..c2], msg, noise, &mut work[0..64]);
-    masked & valued
-}
+ghost use Rattle.scheme.specs.Encaps.{draw};
+ghost use Rattle.scheme.specs.Decaps.{skPkh, ctSalt, decapsK, decapsMessage, decapsSecret};
+ghost use Rattle.agreement.specs.Again.{AgainSized};
+ghost use Rattle.decaps.specs.Made.{DecapsMade, DecapsSecretMade};
 
 // seedSE' and k' in a row, from the stored pkh, the message and the ciphertext's salt.
 fn draw_again(p: Params, sk: &[u8], ct: &[u8], msg: &[u8], seeds: &mut [u8])
@@ -97,9 +28,7 @@ fn draw_again(p: Params, sk: &[u8], ct: &[u8], msg: &[u8], seeds: &mut [u8])
 {
     let pkh = p.sk - p.secret;
     let end = p.sk;
-    let salt = p.d * p.n + p.d * 8;
-    let last = p.ct;
-    hash3(p, &sk[pkh..end], msg, &ct[salt..last], seeds);
+    hash3(p, &sk[pkh..end], msg, salt_of(p, ct), seeds);
 }
 
 // The secret over the ciphertext and k where choice is 1, or s where it is 0.

@@ -1,5 +1,4 @@
 -- The laws of key generation's steps.
-pub mod Filled
 pub mod Matrices
 pub mod PublicKey
 pub mod SecretKey

@@ -16,7 +16,7 @@ use Rattle.scheme.specs.Parts.{hash, noiseWords}
 use Rattle.scheme.specs.KeyGen.{keySeedA, keyNoise, keyS, keyE, keyB}
 use Rattle.scheme.proofs.Keys.{length-keyNoise}
 use Rattle.keypair.specs.Made.{MatrixSized, MatrixMade}
-use Rattle.keypair.proofs.Filled.{length-front}
+use Rattle.lists.proofs.Filled.{length-front}
 
 module _ (p : Params) (valid : Valid p) (seed : List ℕ) where
   -- behind the key's noise anything may stand: S is in front

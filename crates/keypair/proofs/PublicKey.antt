@@ -17,7 +17,7 @@ use Rattle.scheme.specs.Parts.{hash}
 use Rattle.scheme.specs.KeyGen.{keySeedA, keyB, publicKey}
 use Rattle.scheme.proofs.Keys.{length-seedA, length-keyB}
 use Rattle.keypair.specs.Made.{MatrixMade, PublicMade}
-use Rattle.keypair.proofs.Filled.{length-front, Filled, first, next, room, whole}
+use Rattle.lists.proofs.Filled.{length-front, Filled, first, next, room, whole}
 
 -- 15 and 16 are at most 16
 narrow : {d : ℕ} → (d ≡ 15) ⊎ (d ≡ 16) → d ≤ 16

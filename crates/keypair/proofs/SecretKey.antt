@@ -14,7 +14,7 @@ use Rattle.scheme.specs.Parts.{hash, pkhOf}
 use Rattle.scheme.specs.KeyGen.{seedS}
 use Rattle.scheme.proofs.Parts.{length-hash}
 use Rattle.keypair.specs.Made.{SecretSized}
-use Rattle.keypair.proofs.Filled.{length-front, first, next, room, whole}
+use Rattle.lists.proofs.Filled.{length-front, first, next, room, whole}
 
 -- four lists in a row, however they were joined
 row4 : (a b c d : List ℕ) → ((a ++ b) ++ c) ++ d ≡ a ++ (b ++ (c ++ d))

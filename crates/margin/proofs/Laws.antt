@@ -21,7 +21,8 @@ use Rattle.scheme.proofs.Parts.{length-hash}
 use Rattle.scheme.proofs.Keys.{length-keyNoise, length-keyS}
 use Rattle.scheme.proofs.Ciphertexts.{length-encNoise}
 use Rattle.margin.specs.Made.{keyPkh, KeyMade, CopyMade, BothMade}
-use Rattle.margin.proofs.Places.{front, length-front, drop-later, Row, first-is, second-is, rest-is, lent-is, exchanged}
+use Rattle.lists.proofs.Filled.{length-front, drop-later}
+use Rattle.margin.proofs.Places.{front, Row, first-is, second-is, rest-is, lent-is, exchanged}
 
 -- ---- the key's noise and pkh
 

@@ -25,7 +25,8 @@ use Rattle.scheme.specs.Margin.{largestSize, keptBy, noiseTable}
 use Rattle.ratio.specs.Answered.{Measured}
 use Rattle.ratio.specs.declared.Margin.{Margin}
 use Rattle.margin.specs.Made.{BothMade, sealingPart, keyPart, NoiseMade, MarginMade}
-use Rattle.margin.proofs.Places.{front, behind, drop-later, Row, first-is, second-is}
+use Rattle.lists.proofs.Filled.{drop-later}
+use Rattle.margin.proofs.Places.{front, behind, Row, first-is, second-is}
 
 -- ---- the products and their difference
 

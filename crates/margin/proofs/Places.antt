@@ -13,19 +13,9 @@ use Rattle.lists.proofs.Spans.{part-at, rest-at}
 pub front : (m : ℕ) → m - 0 ≡ m
 front m = omega arith
 
-pub length-front : (k : ℕ) (xs : List ℕ) → k ≤ length xs → length (take (k - 0) xs) ≡ k
-length-front k xs h = length-take-le (k - 0) xs (omega arith) ∙ front k
-
 -- the part from 8n up to 16n has 8n words
 pub behind : (n : ℕ) → 16 * n - 8 * n ≡ 8 * n
 behind n = omega arith
-
--- lists that agree from a place on agree from every later one
-pub drop-later : (a b : ℕ) (xs ys : List ℕ) → a ≤ b → drop a xs ≡ drop a ys → drop b xs ≡ drop b ys
-drop-later a b xs ys l e =
-    let end : a + (b - a) ≡ b = omega arith in
-    let f : drop (a + (b - a)) xs ≡ drop (a + (b - a)) ys = sym (drop-drop (b - a) a xs) ∙ ap (drop (b - a)) e ∙ drop-drop (b - a) a ys in
-    rw end at f
 
 -- ---- three lists in a row, the first two of 8n words
 

@@ -1,11 +1,11 @@
 -- Opening a ciphertext (document 01, module 10) as laws of lists: what the callees leave makes up the message.
 -- Assumes nothing.
-use mathlib.Core.Path.{_≡_, sym, ap, _∙_}
+use mathlib.Core.Path.{_≡_, refl, sym, ap, _∙_}
 use mathlib.Core.List.{List, _++_, append-assoc, append-nil}
 use Prim.Native.Nat.{ℕ, _+_, _*_, _-_}
 use native.Mathlib.Omega.{arith}
 use lib.ListN.{length, take, drop, length-append, length-drop, drop-of-length-le}
-use lib.Seq.{take-at, drop-at, take-all, length-take-le}
+use lib.Seq.{take-at, drop-at, take-all}
 use borrow.Rule.Slice.PartMut.{putMid}
 use Rattle.lists.specs.Lists.{residues}
 use Rattle.lists.proofs.Spans.{length-mid, part-at, put-next}
@@ -20,8 +20,9 @@ use Rattle.sets.specs.declared.Params.{Params}
 use Rattle.codec.specs.Pack.{unpacked}
 use Rattle.codec.proofs.RoundTrip.{length-unpacked}
 use Rattle.message.specs.Message.{decoded}
-use Rattle.scheme.specs.Decaps.{skMatrixS, ctB, ctC, opened, decapsMessage}
+use Rattle.scheme.specs.Decaps.{skMatrixS, ctC1, ctC2, ctB, ctC, opened, decapsMessage}
 use Rattle.scheme.proofs.Parts.{d-pos, q-pos}
+use Rattle.ciphertext.proofs.Lengths.{c1-long, c2-long}
 use Rattle.opening.specs.Opening.{OpenSized}
 
 -- C - X mod q, where X is a product that was kept mod q
@@ -52,24 +53,23 @@ module _ (p : Params) (sk ct noise : List ℕ) (sized : OpenSized p (length sk) 
   long-S = length-words (8 * p .n) _ (length-mid (p .secret + p .pk) (16 * p .n) sk (omega (arith, sized .sk-long, sized .valid .sk-is)) ∙ omega arith)
 
   long-B : length (ctB p ct) ≡ 8 * p .n
-  long-B = length-unpacked (p .d) (p .n) (d-pos p (sized .valid)) _ (length-take-le (p .d * p .n) ct (omega (arith, sized .ct-long, sized .valid .ct-is)))
+  long-B = length-unpacked (p .d) (p .n) (d-pos p (sized .valid)) _ (c1-long p ct (sized .valid) (sized .ct-long) refl)
 
   long-C : length (ctC p ct) ≡ 64
-  long-C = length-unpacked (p .d) 8 (d-pos p (sized .valid)) _ (length-mid (p .d * p .n) (p .d * 8) ct (omega (arith, sized .ct-long, sized .valid .ct-is)))
+  long-C = length-unpacked (p .d) 8 (d-pos p (sized .valid)) _ (c2-long p ct (sized .valid) (sized .ct-long) refl)
 
   -- the three parts as they are written
-  pub parts-law : {x0 x1 x2 : List ℕ} → x0 ≡ wordsOf (take (p .secret + p .pk + 16 * p .n - (p .secret + p .pk)) (drop (p .secret + p .pk) sk))
-      → x1 ≡ unpacked (p .d) (take (p .d * p .n - 0) ct)
-      → x2 ≡ unpacked (p .d) (take (p .d * p .n + p .d * 8 - p .d * p .n) (drop (p .d * p .n) ct))
+  pub parts-law : {c1 c2 x0 x1 x2 : List ℕ} → c1 ≡ ctC1 p ct → c2 ≡ ctC2 p ct
+      → x0 ≡ wordsOf (take (p .secret + p .pk + 16 * p .n - (p .secret + p .pk)) (drop (p .secret + p .pk) sk))
+      → x1 ≡ unpacked (p .d) c1
+      → x2 ≡ unpacked (p .d) c2
       → putMid (16 * p .n) (16 * p .n + 64 - 16 * p .n) (putMid (8 * p .n) (16 * p .n - 8 * p .n) (x0 ++ drop (8 * p .n - 0) noise) x1) x2
       ≡ skMatrixS p sk ++ (ctB p ct ++ ctC p ct)
-  parts-law {x0} {x1} {x2} e0 e1 e2 =
+  parts-law {x0 = x0} {x1} {x2} is-c1 is-c2 e0 e1 e2 =
       let k0 : p .secret + p .pk + 16 * p .n - (p .secret + p .pk) ≡ 16 * p .n = omega arith in
-      let k1 : p .d * p .n - 0 ≡ p .d * p .n = omega arith in
-      let k2 : p .d * p .n + p .d * 8 - p .d * p .n ≡ p .d * 8 = omega arith in
       let S : x0 ≡ skMatrixS p sk = e0 ∙ ap (λ (k : ℕ). wordsOf (take k (drop (p .secret + p .pk) sk))) k0 in
-      let B : x1 ≡ ctB p ct = e1 ∙ ap (λ (k : ℕ). unpacked (p .d) (take k ct)) k1 in
-      let C : x2 ≡ ctC p ct = e2 ∙ ap (λ (k : ℕ). unpacked (p .d) (take k (drop (p .d * p .n) ct))) k2 in
+      let B : x1 ≡ ctB p ct = e1 ∙ ap (unpacked (p .d)) is-c1 in
+      let C : x2 ≡ ctC p ct = e2 ∙ ap (unpacked (p .d)) is-c2 in
       three-parts (8 * p .n) (16 * p .n) (16 * p .n + 64) noise x0 x1 x2 (ap length S ∙ long-S) (omega (arith, ap length B, long-B)) (omega (arith, ap length C, long-C)) (sized .noise-long)
       ∙ (λ i. S i ++ (B i ++ C i))
 

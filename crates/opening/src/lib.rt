@@ -1,5 +1,7 @@
 // What decapsulation has besides encapsulation's own steps (document 01, module 10): the message that a ciphertext opens to, the comparison of two
 // matrices, and the choice of one of two secrets. No branch and no index depends on a value that is secret.
+use ciphertext::c1_of;
+use ciphertext::c2_of;
 use codec::unpack;
 use message::decode_message;
 use products::mul_bs;
@@ -29,14 +31,12 @@ fn open_parts(p: Params, sk: &[u8], ct: &[u8], noise: &mut [u16])
 {
     let from = p.secret + p.pk;
     let to = from + 16 * p.n;
-    let c1 = p.d * p.n;
-    let c2 = c1 + p.d * 8;
     let m = 8 * p.n;
     let e = 16 * p.n;
     let f = e + 64;
     words_of(&sk[from..to], &mut noise[0..m]);
-    unpack(p.d, &ct[0..c1], &mut noise[m..e]);
-    unpack(p.d, &ct[c1..c2], &mut noise[e..f]);
+    unpack(p.d, c1_of(p, ct), &mut noise[m..e]);
+    unpack(p.d, c2_of(p, ct), &mut noise[e..f]);
 }
 
 // The message in C - B'*S.

@@ -9,13 +9,15 @@ use native.Mathlib.Omega.{arith}
 use lib.ListN.{length, take, drop}
 use lib.Seq.{take-at, take-add, length-take-le}
 use Rattle.lists.proofs.Spans.{length-part}
-use Rattle.shake.specs.Sponge.{absorbBytes}
+use Rattle.shake.specs.Sponge.{absorbBytes, finished, squeezed}
 use Rattle.shake.specs.declared.Sponge.{Sponge}
 use Rattle.shake.proofs.Absorb.{absorb-append}
-use Rattle.shake.proofs.Uses.{Absorbed, more}
+use Rattle.shake.proofs.Uses.{Absorbed, more, shakes}
+use Rattle.sets.specs.declared.Params.{Params}
 use Rattle.codec.specs.Pack.{packed}
 use Rattle.codec.specs.Packing.{Packing}
 use Rattle.codec.proofs.RoundTrip.{below-packed, length-packed, packs}
+use Rattle.scheme.specs.Parts.{hash}
 
 -- no words, no bytes
 packed-none : (d : ℕ) → packed d [] ≡ []
@@ -50,6 +52,11 @@ took-eight {d} {k} {ws} {s} took room e =
 -- a sponge that had absorbed xs has absorbed those words, packed, behind
 pub absorbed-words : {r d k : ℕ} {xs ws : List ℕ} {s t : Sponge} → Absorbed r xs s → Took d k ws s t → Absorbed r (xs ++ packed d (take (8 * k) ws)) t
 absorbed-words a took = more _ a (λ i. record { fits = below-packed _ _ i }) (took .is)
+
+-- a sponge that has absorbed a list gives its hash
+pub hashed : (p : Params) {xs : List ℕ} {s t : Sponge} (l : ℕ) → Absorbed (p .rate) xs s → t ≡ finished s → squeezed t l ≡ hash p xs l
+unfolding hash
+hashed p l a f = shakes l a f
 
 -- what packing asks of eight words
 pub eight-pack : (d k : ℕ) (ws : List ℕ) → (d ≡ 15) ⊎ (d ≡ 16) → 8 * k + 8 ≤ length ws → Packing d (length (take (8 * k + 8 - 8 * k) (drop (8 * k) ws))) d

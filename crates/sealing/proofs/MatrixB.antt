@@ -7,15 +7,12 @@ use native.Mathlib.Omega.{arith}
 use lib.ListN.{length, take, drop}
 use lib.Seq.{drop-at, take-take, take-add, take-append-le, length-take-le}
 use Rattle.lists.specs.Lists.{residues}
+use Rattle.lists.proofs.Filled.{drop-of-take}
 use Rattle.algebra.specs.Matrix.{mat, _⊕_, mul, table}
 use Rattle.sets.specs.declared.Params.{Params}
 use Rattle.rows.specs.Row.{matA}
 use Rattle.scheme.specs.Parts.{hash, noiseWords}
 use Rattle.sealing.specs.Sealing.{maskNoise, maskB, Masked}
-
--- what is left behind a elements of the first a + b
-pub drop-of-take : (a b : ℕ) (l : List ℕ) → a ≤ length l → drop a (take (a + b) l) ≡ take b (drop a l)
-drop-of-take a b l h = ap (drop a) (take-add a b l) ∙ drop-at (take a l) (take b (drop a l)) a (length-take-le a l h)
 
 -- drawn is the noise, of whose first 16n words, S' and E', the product leaves `left`
 pub masks-law : (p : Params) (seed seedse noise left : List ℕ) {drawn out : List ℕ} → length noise ≡ 16 * p .n + 64

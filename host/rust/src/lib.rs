@@ -44,6 +44,11 @@ mod calls;
 mod refusal;
 mod sys;
 
+/// README.md's Rust example, as a test.
+#[cfg(doctest)]
+#[doc = include_str!("../../../README.md")]
+pub struct Readme;
+
 pub use calls::{decapsulate, decapsulate_shared_secret, encapsulate, generate_keypair_from_seed, lengths, margin, Lengths, Margin, Scratch};
 pub use refusal::Refusal;
 

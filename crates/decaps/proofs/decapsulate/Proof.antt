@@ -4,7 +4,7 @@ use borrow.Author.Needs.{needs}
 use native.Mathlib.Omega.{arith}
 use mathlib.Core.Path.{_∙_}
 use Prim.Native.Nat.{_+_, _*_}
-use Rattle.decaps.proofs.Laws.{wiped-front}
+use Rattle.lists.proofs.Filled.{wiped-front}
 use Rattle.decaps.proofs.decapsulate.Statement.{statement}
 use Rattle.decaps.proofs.decapsulate.Tie as tie
 
@@ -21,8 +21,8 @@ returns c =
     record {
       ss-is = done .ensures .0;
       msg-is = done .ensures .1;
-      noise-is = c .before .before .before .before .before .before .zero-words .ensures ∙ wiped-front (p .noise) (16 * p .n + 64) (s .args .noise .now) (done .last .1 .1 .1 .1 .1 .0) (done .kept .1 .1 .1 .1 .1 .0) (omega (arith, s .pre .valid .noise-is)) (omega (arith, s .pre .valid .noise-is, s .pre .scratch .noise-room));
-      work-is = c .before .before .zero-words2 .ensures ∙ wiped-front (p .work) (8 * p .n) (s .args .work .now) (done .last .1 .1 .1 .1 .1 .1 .0) (done .kept .1 .1 .1 .1 .1 .1 .0) (omega (arith, s .pre .valid .work-is)) (omega (arith, s .pre .valid .work-is, s .pre .scratch .work-room));
+      noise-is = c .before .before .before .before .before .before .zero-words .ensures ∙ wiped-front (p .noise) (16 * p .n + 64 - 0) (s .args .noise .now) (done .last .1 .1 .1 .1 .1 .0) (done .kept .1 .1 .1 .1 .1 .0) (omega (arith, s .pre .valid .noise-is)) (s .pre .scratch .noise-room);
+      work-is = c .before .before .zero-words2 .ensures ∙ wiped-front (p .work) (8 * p .n - 0) (s .args .work .now) (done .last .1 .1 .1 .1 .1 .1 .0) (done .kept .1 .1 .1 .1 .1 .1 .0) (omega (arith, s .pre .valid .work-is)) (s .pre .scratch .work-room);
     }
 
 pub decapsulate-spec : {M : Type 1} → statement M

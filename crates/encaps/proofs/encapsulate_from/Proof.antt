@@ -1,22 +1,14 @@
 -- `encaps::encapsulate_from` meets its contract: the ciphertext from seedSE', the secret from k, and the scratch wiped.
 -- Assumes nothing.
-use mathlib.Core.Path.{_≡_, ap, _∙_}
-use mathlib.Core.List.{List, _++_}
-use Prim.Native.Nat.{ℕ, _+_, _*_, _-_, _≤_}
+use mathlib.Core.Path.{_∙_}
+use Prim.Native.Nat.{_+_, _*_, _-_}
 use native.Mathlib.Omega.{arith}
-use lib.ListN.{length, take, drop, replicate}
-use lib.Seq.{length-take-le}
 use borrow.Author.Needs.{needs}
 use borrow.Rule.Slice.PartMut.{same-len-mid}
-use Rattle.lists.specs.Lists.{wiped}
-use Rattle.lists.proofs.Spans.{drop-front}
+use Rattle.lists.proofs.Filled.{wiped-front}
 use Rattle.encaps.proofs.Seeds.{length-seeds, seedse-law, secret-law}
 use Rattle.encaps.proofs.encapsulate_from.Statement.{statement}
 use Rattle.encaps.proofs.encapsulate_from.Tie as tie
-
--- when a scratch whose front was lent is wiped nothing is left of the front
-wiped-law : (xs ys : List ℕ) (k w : ℕ) {zs : List ℕ} → length ys ≡ length (take k xs) → k ≤ w → w ≤ length xs → zs ≡ wiped w (ys ++ drop k xs) → zs ≡ wiped w xs
-wiped-law xs ys k w h l r e = e ∙ ap (λ (t : List ℕ). replicate w 0 ++ t) (drop-front xs ys k w (h ∙ length-take-le k xs (omega arith)) l)
 
 part-seal-end : tie.Need-part-seal-end
 part-seal-end c = let start = c .before .before .before .before .before .before .before .before .before .before .before in
@@ -49,8 +41,8 @@ returns c = let start = c .before .before .before .before .before .before .befor
     record {
       ct-is = sealed .ensures;
       ss-is = secret-law _ valid _ _ _ (start .pre .1) (start .args .ss .now) (sized .ss-long) (sealed .ensures) (c .before .before .before .before .before .before .before .before .before .before .hash2 .ensures);
-      noise-is = wiped-law (start .args .noise .now) (sealed .last .1 .1 .1 .1 .1 .1 .0) (16 * start .args .p .n + 64 - 0) _ (sealed .kept .1 .1 .1 .1 .1 .1 .0) (omega (arith, valid .noise-is)) (sized .scratch .noise-room) (c .before .before .before .before .before .before .zero-words .ensures);
-      work-is = wiped-law (start .args .work .now) (sealed .last .1 .1 .1 .1 .1 .1 .1 .0) (8 * start .args .p .n - 0) _ (sealed .kept .1 .1 .1 .1 .1 .1 .1 .0) (omega (arith, valid .work-is)) (sized .scratch .work-room) (c .before .before .zero-words2 .ensures);
+      noise-is = c .before .before .before .before .before .before .zero-words .ensures ∙ wiped-front _ (16 * start .args .p .n + 64 - 0) (start .args .noise .now) (sealed .last .1 .1 .1 .1 .1 .1 .0) (sealed .kept .1 .1 .1 .1 .1 .1 .0) (omega (arith, valid .noise-is)) (sized .scratch .noise-room);
+      work-is = c .before .before .zero-words2 .ensures ∙ wiped-front _ (8 * start .args .p .n - 0) (start .args .work .now) (sealed .last .1 .1 .1 .1 .1 .1 .1 .0) (sealed .kept .1 .1 .1 .1 .1 .1 .1 .0) (omega (arith, valid .work-is)) (sized .scratch .work-room);
     }
 
 pub encapsulate-from-spec : {M : Type 1} → statement M

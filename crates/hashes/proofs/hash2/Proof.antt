@@ -1,25 +1,14 @@
--- `hashes::hash2` meets its contract: the sponge that has absorbed both slices gives their hash.
+-- `hashes::hash2` meets its contract: SHAKE of both slices at the set's rate is their hash.
 -- Assumes nothing.
-use mathlib.Core.Path.{_∙_}
-use mathlib.Core.List.{_++_}
 use borrow.Author.Needs.{needs}
-use Rattle.shake.proofs.Uses.{Absorbed, ready, squeezing}
-use Rattle.hashes.proofs.Laws.{absorbed, hashed}
+use Rattle.scheme.specs.Parts.{hash}
+use Rattle.hashes.proofs.Laws.{rate-taken}
 use Rattle.hashes.proofs.hash2.Statement.{statement}
 use Rattle.hashes.proofs.hash2.Tie as tie
 
-took : (c : tie.After-absorb) → (let x = c .before .before .before .before .args in Absorbed (x .p .rate) (x .a .now ++ x .b .now) (c .absorb .result))
-took c =
-    let s = c .before .before .before .before in
-    absorbed (s .pre) (s .args .a .now) (s .args .b .now) (c .before .before .before .shared-slice-known .given) (c .before .before .shared-slice-known2 .given) (c .absorb .ensures)
+returns : tie.Need-returns
+unfolding hash
+returns c = search needs
 
 pub hash2-spec : {M : Type 1} → statement M
-hash2-spec =
-    tie.close
-    (tie.spec
-    (λ c κs. search needs)
-    (λ c κs. ready (took c))
-    (λ c κs. squeezing (took (c .before .before)) (c .before .finish .ensures))
-    (λ c. search needs)
-    (λ c. let d = c .before .before .before .before in
-    c .before .before .squeeze .ensures .0 ∙ hashed _ _ (took (d .before)) (d .finish .ensures)))
+hash2-spec = tie.close (tie.spec (λ c κs. rate-taken (c .before .before .before .before .pre)) (λ c. search needs) returns)

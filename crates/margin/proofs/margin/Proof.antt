@@ -5,7 +5,7 @@ use Prim.Native.Nat.{_≤_}
 use native.Mathlib.Omega.{arith}
 use lib.ListN.{replicate}
 use Rattle.ratio.proofs.Halves.{half-power, q-even}
-use Rattle.margin.proofs.Places.{length-front}
+use Rattle.lists.proofs.Filled.{length-front}
 use Rattle.margin.proofs.Noise.{noise-below, margin-made}
 use Rattle.margin.proofs.margin.Statement.{statement}
 use Rattle.margin.proofs.margin.Tie as tie

@@ -10,8 +10,8 @@ use lib.Seq.{take-all}
 use Rattle.shake.proofs.Uses.{Absorbed, none, more, ready, squeezing}
 use Rattle.codec.specs.Pack.{packed}
 use Rattle.rows.proofs.Rows.{bits-le}
-use Rattle.hashes.proofs.Laws.{rate-taken, hashed}
-use Rattle.pkh.proofs.Laws.{Took, took-none, took-eight, absorbed-words, eight-pack}
+use Rattle.hashes.proofs.Laws.{rate-taken}
+use Rattle.pkh.proofs.Laws.{Took, took-none, took-eight, absorbed-words, hashed, eight-pack}
 use Rattle.pkh.proofs.pkh_of.Statement.{statement}
 use Rattle.pkh.proofs.pkh_of.Tie as tie
 

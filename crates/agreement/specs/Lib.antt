@@ -1,0 +1,2 @@
+-- What redoing encapsulation asks, and what a comparison leaves.
+pub mod Again

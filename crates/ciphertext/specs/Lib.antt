@@ -1,0 +1,2 @@
+-- What a view of a ciphertext asks.
+pub mod Sized

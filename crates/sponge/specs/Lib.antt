@@ -1,0 +1,2 @@
+-- What the sponge holds between its parts.
+pub mod Full

@@ -1,0 +1,4 @@
+-- The laws of walks by hand.
+pub mod Answer
+pub mod Kit
+pub mod Lent

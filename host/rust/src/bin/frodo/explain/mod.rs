@@ -1,0 +1,79 @@
+//! frodo explain: was the report damaged, or did the noise spoil it?
+mod facts;
+mod finding;
+mod gather;
+mod judge;
+mod rows;
+mod search;
+mod show;
+
+use crate::args::{Command, Flag, Given, Takes, FORCE, JSON, SET};
+use crate::commands::read;
+use crate::failure::Failure;
+use crate::files::{self, File};
+use crate::kem::Kem;
+use crate::sets::{self, Kind};
+use crate::Answer;
+use gather::{Case, Gathered};
+
+const fn input(name: &'static str, about: &'static str) -> Flag {
+    Flag { name, takes: Takes::Input, about }
+}
+
+pub const EXPLAIN: Command = Command {
+    name: "explain",
+    about: "says whether a report is intact, damaged or spoiled by noise, and why; repairs it",
+    usage: &["--secret FILE --sealed FILE [--seed FILE] [--message FILE] [--salt FILE] [--repair --sealed-out FILE --key-out FILE]"],
+    details: "\
+With seed, message and salt it is decided: key and report are made again and compared, and the margin says whether noise could have spoiled it.
+With the secret key alone, what the report opens to is sealed again with the report's own salt. Where that gives other bytes nearly everywhere, other sealings
+are tried, some hundreds to two thousand: damage of two neighbouring bytes in each of up to four rows of c1 and c2, one bit of the salt, one group of the message.
+That takes seconds; --no-search leaves it out.
+Each reason says whether it was seen in this run, is proved (by which theorem, in which file), or is only likely.
+With --repair the sealed report and its secret are written where they are known; the exit status is the verdict's all the same.",
+    flags: &[
+        SET,
+        input("--secret", "the secret key"),
+        input("--sealed", "the sealed report"),
+        input("--seed", "the seed that the key was made from"),
+        input("--message", "the message that was sealed"),
+        input("--salt", "the salt that it was sealed with"),
+        Flag { name: "--no-search", takes: Takes::Nothing, about: "try no other salts and messages" },
+        Flag { name: "--repair", takes: Takes::Nothing, about: "write what --sealed-out and --key-out name, where it is known" },
+        Flag { name: "--sealed-out", takes: Takes::Output { secret: false }, about: "the report as it was sealed" },
+        Flag { name: "--key-out", takes: Takes::Output { secret: true }, about: "its shared secret, mode 0600" },
+        FORCE,
+        JSON,
+    ],
+    run: explain,
+};
+
+fn optional(given: &Given, flag: &str) -> Result<Option<File>, Failure> {
+    given.value(flag).map(files::read).transpose()
+}
+
+fn explain(given: &Given) -> Result<Answer, Failure> {
+    given.only_with("--repair", &["--sealed-out", "--key-out"])?;
+    if given.has("--repair") && !given.has("--sealed-out") && !given.has("--key-out") {
+        return Err(Failure::usage("--repair wants --sealed-out FILE, --key-out FILE or both"));
+    }
+    let (secret, sealed) = (read(given, "--secret")?, read(given, "--sealed")?);
+    let (seed, message, salt) = (optional(given, "--seed")?, optional(given, "--message")?, optional(given, "--salt")?);
+    let mut known = vec![(Kind::Secret, &secret)];
+    known.extend([(Kind::Seed, &seed), (Kind::Message, &message), (Kind::Salt, &salt)].into_iter().filter_map(|(kind, file)| Some((kind, file.as_ref()?))));
+    let set = sets::settle(given.value("--set"), &known)?;
+    if sealed.bytes.len() != set.lengths.ciphertext {
+        let finding = judge::wrong_length(&set, sealed.bytes.len());
+        return Ok(Answer { status: finding.status, text: show::text(&set, &finding, None), json: show::json(&set, &finding, None), outputs: vec![] });
+    }
+    let bytes = |file: Option<File>| file.map(|f| f.bytes);
+    let case = Case { secret: secret.bytes, report: sealed.bytes, seed: bytes(seed), message: bytes(message), salt: bytes(salt), search: !given.has("--no-search") };
+    let Gathered { facts, sealed } = gather::gather(&mut Kem::new(set), &case)?;
+    let finding = judge::judge(&facts);
+    let outputs = if finding.known { vec![("--sealed-out", sealed.report), ("--key-out", sealed.key)] } else { vec![] };
+    let mut text = show::text(&set, &finding, Some(&facts));
+    if given.has("--repair") && !finding.known {
+        text += "\nnot repaired: the sealed report is not known\n";
+    }
+    Ok(Answer { status: finding.status, text, json: show::json(&set, &finding, Some(&facts)), outputs })
+}
