@@ -3,7 +3,7 @@
 //! words are as they were. Built where FRODO_ARCHIVE names the folder of libfrodo_c.a.
 //!
 //! SEEDS=n: seeds a set (200). Every seed gets key generation, encapsulation, the margin and both decapsulations honestly, and then as many kinds of damage as
-//! DAMAGES says (5; `all` for every kind on every seed), in turn, so that each kind comes up equally often; every kind goes through `decapsulate`, and every
+//! DAMAGES says (4; `all` for every kind on every seed), in turn, so that each kind comes up equally often; every kind goes through `decapsulate`, and every
 //! second time through `decapsulate_shared_secret` too. All inputs are SHAKE256 of a fixed label, the set and the seed's number.
 #[cfg(not(frodo_archive))]
 fn main() {
@@ -402,7 +402,7 @@ mod compare {
             }),
             _ => otherwise,
         };
-        let (seeds, damages) = (number("SEEDS", 200), number("DAMAGES", 5).min(KINDS.len()));
+        let (seeds, damages) = (number("SEEDS", 200), number("DAMAGES", 4).min(KINDS.len()));
         let one = |k: u32| with_set!(k, K => set::<K>(k, seeds, damages), else unreachable!());
         // set 3 takes as long as the other two
         std::thread::scope(|scope| {
