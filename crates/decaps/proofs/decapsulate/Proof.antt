@@ -3,7 +3,7 @@
 use borrow.Author.Needs.{needs}
 use native.Mathlib.Omega.{arith}
 use mathlib.Core.Path.{_∙_}
-use Prim.Native.Nat.{_+_, _*_}
+use Prim.Native.Nat.{_+_, _*_, _-_}
 use Rattle.lists.proofs.Filled.{wiped-front}
 use Rattle.decaps.proofs.decapsulate.Statement.{statement}
 use Rattle.decaps.proofs.decapsulate.Tie as tie

@@ -14,7 +14,9 @@ pub enum Takes {
     /// A file that is read, or `-`.
     Input,
     /// A file that is written, or `-`; a secret one is for its owner's eyes only.
-    Output { secret: bool },
+    Output {
+        secret: bool,
+    },
 }
 
 pub struct Flag {
@@ -142,7 +144,8 @@ fn statuses() -> String {
 
 /// The program's help.
 pub fn overview(commands: &[Command]) -> String {
-    let mut text = "frodo: seals keys to a FrodoKEM public key, opens them, and says why a report does not open\n\nusage: frodo COMMAND [OPTIONS]\n\ncommands:\n".to_string();
+    let mut text =
+        "frodo: seals keys to a FrodoKEM public key, opens them, and says why a report does not open\n\nusage: frodo COMMAND [OPTIONS]\n\ncommands:\n".to_string();
     for command in commands {
         let _ = writeln!(text, "  {:8} {}", command.name, command.about);
     }

@@ -51,7 +51,9 @@ pub const SEAL: Command = Command {
         "--public FILE --message FILE --salt FILE --sealed FILE --key FILE",
         "--public FILE --random --sealed FILE --key FILE [--message-out FILE] [--salt-out FILE]",
     ],
-    details: "The shared secret is for the caller's own cipher; the sealed report goes beside what that cipher makes.\nMessage and salt are random bytes, drawn for this report alone.",
+    details: "\
+The shared secret is for the caller's own cipher; the sealed report goes beside what that cipher makes.
+Message and salt are random bytes, drawn for this report alone.",
     flags: &[
         SET,
         input("--public", "the public key"),

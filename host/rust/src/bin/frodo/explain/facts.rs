@@ -76,8 +76,8 @@ pub enum Salt {
     Given,
     /// The report carries it.
     Carried,
-    /// One bit differs from what the report carries.
-    Bit(usize),
+    /// One byte differs from what the report carries.
+    Byte(usize),
 }
 
 /// A sealing that is held against the report.
@@ -119,7 +119,7 @@ pub struct Facts {
     pub own: Option<Closeness>,
     /// With a seed, where `tried` is near or all inputs are there.
     pub margin: Option<Margin>,
-    /// How many other sealings were tried.
+    /// How many other messages and salts were tried.
     pub searched: Option<usize>,
 }
 

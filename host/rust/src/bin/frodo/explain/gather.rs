@@ -2,6 +2,7 @@
 use super::facts::{closeness, compare, Closeness, Facts, Inputs, Message, Part, Salt, Tried};
 use super::rows;
 use super::search::{messages, salts, Candidate};
+use super::sieve::Sieve;
 use crate::kem::{Kem, Opened, Sealed};
 use crate::sets::Set;
 use std::io::{self, IsTerminal};
@@ -46,43 +47,69 @@ impl Judge<'_> {
         Ok(Attempt { candidate, sealed, parts })
     }
 
-    /// The first candidate that comes near, and how many were tried: a batch at a time, one a core.
-    fn search(&self, candidates: &[Candidate]) -> Result<(Option<Attempt>, usize), Refusal> {
+    /// The first of some candidates that comes near.
+    fn first_near(&self, sieve: &Sieve, what: &str, candidates: &[Candidate]) -> Result<Option<Attempt>, Refusal> {
         let cores = thread::available_parallelism().map_or(1, usize::from);
-        let mut count = 0;
-        for batch in candidates.chunks(cores) {
-            progress(count, candidates.len());
-            let attempts: Vec<Result<Attempt, Refusal>> = thread::scope(|scope| {
-                let running: Vec<_> = batch.iter().map(|candidate| scope.spawn(|| self.attempt(candidate.clone()))).collect();
-                running.into_iter().map(|attempt| attempt.join().expect("an attempt does not panic")).collect()
-            });
-            count += batch.len();
-            for attempt in attempts {
-                let attempt = attempt?;
+        for (count, batch) in candidates.chunks(BATCH * cores).enumerate() {
+            progress(&format!("\rsearching: {what}, {} of {}    ", count * BATCH * cores, candidates.len()));
+            for candidate in sifted(sieve, batch) {
+                let attempt = self.attempt(candidate.clone())?;
                 if closeness(&attempt.parts) != Closeness::Far {
-                    progress_done();
-                    return Ok((Some(attempt), count));
+                    return Ok(Some(attempt));
                 }
             }
         }
-        progress_done();
-        Ok((None, count))
+        Ok(None)
+    }
+
+    /// Searches near a candidate, changing nothing that was given: what was found, and how many candidates there were.
+    fn search(&self, case: &Case, from: &Candidate) -> Result<(Option<Attempt>, usize), Refusal> {
+        let (any_salt, any_message) = (case.salt.is_none(), case.message.is_none());
+        let in_rows = || {
+            let (rows, guesses) = rows::messages(&self.set, self.secret, self.report);
+            guesses.into_iter().map(|message| Candidate { message: (Message::Rows(rows), message), ..from.clone() }).collect()
+        };
+        let stages: [Stage<'_>; 3] = [
+            (any_salt, "one byte of the salt", &|| salts(from).collect()),
+            (any_message, "one group of the message", &|| messages(&self.set, from).collect()),
+            (any_message, "bytes of c1 and c2", &in_rows),
+        ];
+        crate::say("searching for small damage; --no-search leaves that out\n");
+        let sieve = Sieve::new(self.set, &self.secret[self.set.public_in_secret()], self.report);
+        let (mut found, mut count) = (None, 0);
+        for (_, what, stage) in stages.into_iter().filter(|(wanted, _, _)| *wanted) {
+            let candidates = stage();
+            count += candidates.len();
+            found = self.first_near(&sieve, what, &candidates)?;
+            if found.is_some() {
+                break;
+            }
+        }
+        progress("\r                                                            \r");
+        Ok((found, count))
     }
 }
 
-/// On a terminal a line that counts; elsewhere one line.
-fn progress(count: usize, all: usize) {
-    if count == 0 {
-        crate::say(&format!("searching among {all} other sealings: bytes of c1 or c2 put right, salts with a bit changed, messages with a group changed\n"));
-    } else if io::stderr().is_terminal() {
-        crate::say(&format!("\r{count} of {all}"));
-    }
-}
+/// A part of the search: whether it is wanted, what is changed in it, and its candidates.
+type Stage<'a> = (bool, &'static str, &'a dyn Fn() -> Vec<Candidate>);
 
-fn progress_done() {
+/// How many candidates a core takes at a time.
+const BATCH: usize = 1024;
+
+/// A line that is written over, on a terminal only.
+fn progress(line: &str) {
     if io::stderr().is_terminal() {
-        crate::say("\r                    \r");
+        crate::say(line);
     }
+}
+
+/// The candidates that the sieve lets through, in their order; the work is shared among the cores.
+fn sifted<'a>(sieve: &Sieve, candidates: &'a [Candidate]) -> Vec<&'a Candidate> {
+    let sift = |part: &'a [Candidate]| part.iter().filter(|c| sieve.lets_through(c)).collect::<Vec<_>>();
+    thread::scope(|scope| {
+        let running: Vec<_> = candidates.chunks(BATCH).map(|part| scope.spawn(move || sift(part))).collect();
+        running.into_iter().flat_map(|part| part.join().expect("the sieve does not panic")).collect()
+    })
 }
 
 /// What the report opens to and carries, and what was given in place of that.
@@ -93,22 +120,6 @@ fn candidates(kem: &Kem, case: &Case, opened: &Opened) -> (Candidate, Candidate)
         salt: case.salt.clone().map_or_else(|| own.salt.clone(), |s| (Salt::Given, s)),
     };
     (own, given)
-}
-
-/// What to try beyond `from`: nothing that was given is changed.
-fn around(judge: &Judge<'_>, case: &Case, from: &Candidate) -> Vec<Candidate> {
-    let mut list = Vec::new();
-    if case.message.is_none() {
-        let (rows, guesses) = rows::messages(&judge.set, judge.secret, judge.report);
-        list.extend(guesses.into_iter().map(|message| Candidate { message: (Message::Rows(rows), message), ..from.clone() }));
-    }
-    if case.salt.is_none() {
-        list.extend(salts(from));
-    }
-    if case.message.is_none() {
-        list.extend(messages(&judge.set, from));
-    }
-    list
 }
 
 /// Gathers all facts of a case.
@@ -128,7 +139,7 @@ pub fn gather(kem: &mut Kem, case: &Case) -> Result<Gathered, Refusal> {
             own_closeness = Some(closeness(&judge.attempt(own)?.parts));
         }
         if case.search && own_closeness.unwrap_or(Closeness::Far) == Closeness::Far && (case.message.is_none() || case.salt.is_none()) {
-            let (found, count) = judge.search(&around(&judge, case, &given))?;
+            let (found, count) = judge.search(case, &given)?;
             searched = Some(count);
             best = found.unwrap_or(best);
         }

@@ -46,7 +46,7 @@ fn sealing(facts: &Facts) -> String {
     let salt = match facts.tried.salt {
         Salt::Given => "the given salt".to_string(),
         Salt::Carried => "the report's own salt".to_string(),
-        Salt::Bit(bit) => format!("the report's salt with bit {} of its byte {} changed", bit % 8, bit / 8),
+        Salt::Byte(byte) => format!("the report's salt with byte {byte} of it changed"),
     };
     let key = if facts.inputs.seed { "the seed's public key" } else { "the public key in the secret key file" };
     format!("{message} with {salt} under {key}")
@@ -68,7 +68,8 @@ fn noise(facts: &Facts, finding: Finding) -> Finding {
 }
 
 fn whole(facts: &Facts) -> Finding {
-    let finding = Finding::new(Verdict::Intact, "The report is, in every byte, what sealing makes.").because(Seen, format!("Sealing {} gives these very bytes.", sealing(facts)));
+    let finding =
+        Finding::new(Verdict::Intact, "The report is, in every byte, what sealing makes.").because(Seen, format!("Sealing {} gives these very bytes.", sealing(facts)));
     if !facts.tried.secret_back {
         return unfit(finding);
     }
@@ -139,7 +140,9 @@ fn confirmed(facts: &Facts, finding: Finding) -> Finding {
             .because(Seen, "The repaired report opens to this message, but to another secret: the secret key file's pkh is not the hash of its public key.")
             .because(Proved(KEY_PASSES), "A generated key holds that hash: the key file is damaged as well. The secret that --repair writes is the sealed one's."),
         (false, _) if facts.inputs.seed => finding.because(Proved(THIRD_DEMAND), "The repaired report does not open to this message: noise spoils it as well."),
-        (false, _) => finding.because(Open, "The repaired report does not open to this message: noise spoils it as well, or S in the secret key file is damaged. --seed decides."),
+        (false, _) => {
+            finding.because(Open, "The repaired report does not open to this message: noise spoils it as well, or S in the secret key file is damaged. --seed decides.")
+        }
     }
 }
 
@@ -178,16 +181,16 @@ fn undecided(facts: &Facts) -> Finding {
     let mut finding = Finding::new(Verdict::Undecided, "It cannot be decided from what was given.")
         .because(Seen, format!("Sealing {} gives other bytes nearly everywhere.", sealing(facts)));
     if let Some(count) = facts.searched {
-        finding = finding.because(Seen, format!("So did {count} sealings of messages and salts that differ a little."));
+        finding = finding.because(Seen, format!("Of {count} messages and salts that differ a little, none is this report's, by a quick test."));
     }
     let narrowed = inputs.message && facts.tried.message_back;
     let mut causes = Vec::new();
     if narrowed {
         finding = finding.because(Likely, "The report opens to the given message, so that c1, c2 and S are whole or nearly so.");
-        causes.push(if inputs.salt { "the given salt is not this report's" } else { "the salt is damaged in more than one bit" });
+        causes.push(if inputs.salt { "the given salt is not this report's" } else { "the salt is damaged in more than one byte" });
     } else {
         causes.extend(["c1 or c2 is damaged so much that the message does not come back", "noise spoiled the message"]);
-        causes.push(if inputs.salt { "the given salt is not this report's" } else { "the salt is damaged in more than one bit" });
+        causes.push(if inputs.salt { "the given salt is not this report's" } else { "the salt is damaged in more than one byte" });
     }
     if other_key(facts) {
         causes.push("the seed does not belong to the secret key: it makes a wholly different key");
@@ -195,9 +198,10 @@ fn undecided(facts: &Facts) -> Finding {
         causes.push("the secret key file is damaged, or the report was not sealed to this key");
     }
     finding = finding
-        .because(Proved(ACCEPTED), "Under a key that holds its own hash such bytes are not accepted: `frodo open` gives a secret that is drawn from the key's s.")
+        .because(Proved(ACCEPTED), "Under a key that holds its own hash such bytes are not accepted: `frodo open` gives a secret made of them and the key's s.")
         .because(Open, format!("Which of these it is: {}.", causes.join("; ")));
-    let missing: Vec<&str> = [(inputs.seed, "--seed"), (inputs.message, "--message"), (inputs.salt, "--salt")].iter().filter(|(given, _)| !given).map(|(_, f)| *f).collect();
+    let missing: Vec<&str> =
+        [(inputs.seed, "--seed"), (inputs.message, "--message"), (inputs.salt, "--salt")].iter().filter(|(given, _)| !given).map(|(_, f)| *f).collect();
     finding.because_if(!missing.is_empty(), Next, format!("{} would decide it.", missing.join(", ")))
 }
 
@@ -334,9 +338,9 @@ mod tests {
         (f.tried.parts[0].differ, f.tried.secret_back, f.searched) = (996, false, Some(512));
         let finding = judge(&f);
         assert!(finding.verdict == Verdict::Undecided && !finding.known && cites(&finding, ACCEPTED));
-        assert!(says(&finding, Seen, "512 sealings") && says(&finding, Next, "--seed, --message, --salt would decide it"));
+        assert!(says(&finding, Seen, "Of 512 messages and salts") && says(&finding, Next, "--seed, --message, --salt would decide it"));
         (f.inputs.message, f.tried.message) = (true, Message::Given);
-        assert!(says(&judge(&f), Open, "the salt is damaged in more than one bit"));
+        assert!(says(&judge(&f), Open, "the salt is damaged in more than one byte"));
         f.own = Some(Closeness::Same);
         assert!(judge(&f).headline.contains("not of the message and salt that were given"));
 

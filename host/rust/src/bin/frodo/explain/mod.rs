@@ -5,7 +5,9 @@ mod gather;
 mod judge;
 mod rows;
 mod search;
+mod shake;
 mod show;
+mod sieve;
 
 use crate::args::{Command, Flag, Given, Takes, FORCE, JSON, SET};
 use crate::commands::read;
@@ -26,9 +28,9 @@ pub const EXPLAIN: Command = Command {
     usage: &["--secret FILE --sealed FILE [--seed FILE] [--message FILE] [--salt FILE] [--repair --sealed-out FILE --key-out FILE]"],
     details: "\
 With seed, message and salt it is decided: key and report are made again and compared, and the margin says whether noise could have spoiled it.
-With the secret key alone, what the report opens to is sealed again with the report's own salt. Where that gives other bytes nearly everywhere, other sealings
-are tried, some hundreds to two thousand: damage of two neighbouring bytes in each of up to four rows of c1 and c2, one bit of the salt, one group of the message.
-That takes seconds; --no-search leaves it out.
+With the secret key alone, what the report opens to is sealed again with the report's own salt. Where that gives other bytes nearly everywhere, it is searched for:
+one damaged byte anywhere, two neighbouring ones in each of up to four rows of c1 and c2, or one group of the message that noise has changed. That takes seconds;
+--no-search leaves it out.
 Each reason says whether it was seen in this run, is proved (by which theorem, in which file), or is only likely.
 With --repair the sealed report and its secret are written where they are known; the exit status is the verdict's all the same.",
     flags: &[

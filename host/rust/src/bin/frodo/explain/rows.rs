@@ -1,16 +1,16 @@
 //! Damage to c1 and c2 that spoils the message: which messages the report would open to if two neighbouring bytes in a row of c1, or of c2, were others.
 //!
 //! C - B'*S is the encoded message plus noise that is small beside h, so that each of its 64 entries stands near a multiple of 2h. Damage in row i of c1 or c2 moves
-//! the entries of row i alone. Where a row stands off, every change of two neighbouring bytes that brings all of its entries back is a guess, the nearest one first.
-//! Guesses need no trust: each is sealed again and compared.
+//! the entries of row i alone. Where rows stand off, every change of two neighbouring bytes that brings all entries of a row back is a guess, the nearest one first.
+//! Where none does, every change of one byte that moves entries from one multiple to another is. Guesses need no trust: each is sealed again and compared.
 use crate::sets::Set;
 use std::collections::HashSet;
 
-/// How many messages are given at most.
-const MOST: usize = 512;
+/// How many combinations of guesses are given at most where rows stand off.
+const MOST: usize = 20_000;
 
 /// Word `index` of bytes that hold words of d bits, highest bit first; 0 behind their end.
-fn word(bytes: &[u8], d: usize, index: usize) -> i32 {
+pub fn word(bytes: &[u8], d: usize, index: usize) -> i32 {
     (index * d..(index + 1) * d).fold(0, |word, bit| word << 1 | bytes.get(bit / 8).map_or(0, |byte| i32::from(byte >> (7 - bit % 8) & 1)))
 }
 
@@ -95,15 +95,21 @@ impl<'a> Opening<'a> {
         c1.chain(c2)
     }
 
-    /// All guesses for row i, the best first. Two changed bytes are so many more ways than one that what they leave counts double.
-    fn guesses(&self, i: usize) -> Vec<Guess> {
+    /// The guess that row i makes as it stands.
+    fn as_is(&self, i: usize) -> Option<Guess> {
+        self.guess(|j| self.entries[i][j])
+    }
+
+    /// All guesses for row i, the best first, with one byte changed, or two. Two are so many more ways than one that what they leave counts double.
+    fn guesses(&self, i: usize, two: bool) -> Vec<Guess> {
         let (d, row) = (self.set.log_q, &self.entries[i]);
         let mask = (1_i64 << d) - 1;
+        let changes: Vec<i64> = (1..=0xffff).filter(|change| two || change & 0xff == 0 || change >> 8 == 0).collect();
         // the entry that stands off most is looked at first
         let first = (0..8).max_by_key(|&j| self.off(row[j])).unwrap_or(0);
         let mut found: Vec<Guess> = Vec::new();
-        for Window { words, shift, factors: [a, b] } in self.windows(i).filter(|w| w.factors.iter().any(|f| f[first] != 0)) {
-            for change in 1..=0xffff {
+        for Window { words, shift, factors: [a, b] } in self.windows(i) {
+            for change in changes.iter().copied() {
                 let new = words ^ change << shift;
                 let (high, low) = (((new >> d) - (words >> d)) as i32, ((new & mask) - (words & mask)) as i32);
                 let entry = |j: usize| row[j].wrapping_sub(high.wrapping_mul(a[j])).wrapping_sub(low.wrapping_mul(b[j]));
@@ -132,27 +138,39 @@ fn message(set: &Set, rows: &[[u8; 8]]) -> Vec<u8> {
     bytes
 }
 
-/// How many rows stand off, and the messages that the report would open to if they did not: the best guesses first. Empty where no row stands off, or one cannot be
+/// How many rows were put right, and the messages that the report then opens to: the best guesses first. Empty where too many rows stand off, or one cannot be
 /// brought back.
 pub fn messages(set: &Set, secret: &[u8], report: &[u8]) -> (usize, Vec<Vec<u8>>) {
     let opening = Opening::new(set, secret, report);
-    let as_is: Vec<Option<Guess>> = (0..8).map(|i| opening.guess(|j| opening.entries[i][j])).collect();
+    let as_is: Vec<Option<Guess>> = (0..8).map(|i| opening.as_is(i)).collect();
     let off = as_is.iter().filter(|guess| guess.is_none()).count();
-    if off == 0 || off > 4 {
-        return (off, Vec::new());
+    match off {
+        0 => (1, unseen(&opening, &as_is.iter().flatten().map(|(_, groups)| *groups).collect::<Vec<_>>())),
+        1..=4 => (off, combined(&opening, &as_is, off)),
+        _ => (off, Vec::new()),
     }
-    // as many of each row's guesses as keep all their combinations few
-    let each = (1..=MOST).rev().find(|k| k.pow(off as u32) <= MOST).unwrap_or(1);
-    let mut combined: Vec<(usize, Vec<[u8; 8]>)> = vec![(0, Vec::new())];
-    for (i, guess) in as_is.into_iter().enumerate() {
-        let choices = guess.map_or_else(|| opening.guesses(i), |guess| vec![guess]);
+}
+
+/// Every message that one changed byte can have made of another without a trace but the message.
+fn unseen(opening: &Opening<'_>, rows: &[[u8; 8]]) -> Vec<Vec<u8>> {
+    let other = |i: usize| opening.guesses(i, false).into_iter().map(move |(_, groups)| (i, groups)).filter(|(i, groups)| rows[*i] != *groups);
+    let put = |(at, groups): (usize, [u8; 8])| -> Vec<[u8; 8]> { rows.iter().enumerate().map(|(i, row)| if i == at { groups } else { *row }).collect() };
+    (0..rows.len()).flat_map(other).map(|change| message(opening.set, &put(change))).collect()
+}
+
+/// The guesses of the rows that stand off, combined: as many of each row as keep the combinations few.
+fn combined(opening: &Opening<'_>, as_is: &[Option<Guess>], off: usize) -> Vec<Vec<u8>> {
+    let each = (1..=MOST).rev().find(|k| k.saturating_pow(off as u32) <= MOST).unwrap_or(1);
+    let mut all: Vec<(usize, Vec<[u8; 8]>)> = vec![(0, Vec::new())];
+    for (i, guess) in as_is.iter().enumerate() {
+        let choices = guess.map_or_else(|| opening.guesses(i, true), |guess| vec![guess]);
         let extend = |(rank, rows): &(usize, Vec<[u8; 8]>)| -> Vec<(usize, Vec<[u8; 8]>)> {
             choices.iter().take(each).enumerate().map(|(place, (_, groups))| (rank + place, [rows.as_slice(), &[*groups]].concat())).collect()
         };
-        combined = combined.iter().flat_map(extend).collect();
+        all = all.iter().flat_map(extend).collect();
     }
-    combined.sort();
-    (off, combined.iter().map(|(_, rows)| message(set, rows)).collect())
+    all.sort();
+    all.iter().map(|(_, rows)| message(opening.set, rows)).collect()
 }
 
 #[cfg(test)]
@@ -173,7 +191,10 @@ mod tests {
             let (seed, sent, salt) = (bytes(1, set.lengths.key_seed), bytes(2, set.lengths.message), bytes(3, set.lengths.salt));
             let keys = kem.keys(&seed).unwrap();
             let whole = kem.seal(&keys.public, &sent, &salt).unwrap().report;
-            assert_eq!(messages(&set, &keys.secret, &whole), (0, vec![]), "set {}: nothing stands off", set.number);
+            assert!(!messages(&set, &keys.secret, &whole).1.contains(&sent), "set {}: nothing stands off", set.number);
+            let mut top = whole.clone();
+            top[set.n * set.log_q / 8] ^= 0x80;
+            assert!(messages(&set, &keys.secret, &top).1.contains(&sent), "set {}: the highest bit of row 1's first word", set.number);
             let mut both = whole.clone();
             // from byte 100 on in c1's first row, and in c2's last row: the first byte whose damage spoils the message
             for from in [100, set.salt_in_sealed().start - 15] {

@@ -1,5 +1,5 @@
-//! Where sealing again what a report opens to gives wholly other bytes: other salts and messages that differ a little. What is found is judged by the same
-//! comparison, so that the search itself needs no trust.
+//! Where sealing again what a report opens to gives wholly other bytes: other salts and messages that differ a little. What is found is sealed and compared like
+//! anything else, so that the search itself needs no trust.
 use super::facts::{Message, Salt};
 use crate::sets::Set;
 
@@ -10,12 +10,12 @@ pub struct Candidate {
     pub salt: (Salt, Vec<u8>),
 }
 
-/// Every salt that differs in one bit.
+/// Every salt that differs in one byte.
 pub fn salts(from: &Candidate) -> impl Iterator<Item = Candidate> + '_ {
-    (0..8 * from.salt.1.len()).map(|bit| {
+    (0..from.salt.1.len()).flat_map(|byte| (1..=255).map(move |change| (byte, change))).map(|(byte, change): (usize, u8)| {
         let mut salt = from.salt.1.clone();
-        salt[bit / 8] ^= 1 << (bit % 8);
-        Candidate { salt: (Salt::Bit(bit), salt), ..from.clone() }
+        salt[byte] ^= change;
+        Candidate { salt: (Salt::Byte(byte), salt), ..from.clone() }
     })
 }
 
@@ -47,7 +47,7 @@ mod tests {
         for set in sets::all() {
             let from = start(&set);
             let salts: HashSet<Vec<u8>> = salts(&from).map(|c| c.salt.1).collect();
-            assert_eq!(salts.len(), 8 * set.lengths.salt);
+            assert_eq!(salts.len(), 255 * set.lengths.salt);
             let messages: HashSet<Vec<u8>> = messages(&set, &from).map(|c| c.message.1).collect();
             assert_eq!(messages.len(), 64 * ((1 << set.bits) - 1));
             assert!(!messages.contains(&from.message.1));
