@@ -5,7 +5,7 @@
  *   signal die SET KEY-FILE REPORT STACK      the dying process: it has the public key only, and STACK bytes of alternate stack above a guard page
  *
  * The kernel's own signal frame lies on the same stack, and its size is the machine's: where 8 KiB do not hold it, the output says so, and the least that holds.
- * The program is linked with -z now: a memcpy that is bound at its first use runs the dynamic linker on the alternate stack, some 3 KB more, and dies.
+ * The program is linked with -z now: a memcpy that is bound at its first use runs the dynamic linker on the alternate stack, which takes some KB more.
  *
  * The cipher above the shared secret is the caller's and no part of the library. What stands in for it here is the secret repeated and XORed over the report: it
  * shows that both sides hold the same secret, and is no cipher to use. */
