@@ -8,7 +8,7 @@
 # make stack          the stack that each call takes
 # make signal         a process with a broken heap seals its report in a signal handler; another process opens it
 # make hostile        guard pages, wrong lengths and sets, unset memory
-# make side-by-side   every call beside frodo-kem-rs, byte for byte (FRODO_KEM_RS names its folder, SEEDS the number of seeds a set, 200)
+# make side-by-side   every call beside frodo-kem-rs, byte for byte (FRODO_KEM_RS names its folder, SEEDS=20 makes it short)
 # make bench          speed beside other code, as ratios
 # make oracle         builds frodo-kem-rs from its own source (FRODO_KEM_RS names its folder), for the lists in tests/lists
 # make lists          makes the lists of answers again: wants the oracle

@@ -22,9 +22,12 @@
  *
  * After 0 the outputs are written whole, and the first words of each scratch, as many as the table says, are zero; later words are untouched.
  *
- * The caller's duties: a pointer and its length (in elements) name memory that is valid for the call and holds initialised values; a uint16_t pointer is
- * aligned for uint16_t; no two buffers of one call overlap. A length of 0 may go with any pointer that is not NULL, and with NULL too: the buffer is then
- * never touched, and the call is refused, since no buffer of a set has length 0. Scratch contents do not matter. */
+ * The caller's duties: a pointer and its length (in elements) name memory that is valid for the call; a uint16_t pointer is aligned for uint16_t; no two buffers
+ * of one call overlap, but for those that are only read. What outputs and scratches hold before does not matter. A length of 0 may go with any pointer, NULL
+ * too: the buffer is then never touched, and the call is refused, since no buffer of a set has length 0.
+ *
+ * In a signal handler: lend static memory. A call was measured to take less than 3 KiB of stack (`make stack`), where memcpy and memset are bound when the program starts
+ * (link with -Wl,-z,now): bound at first use, they run the dynamic linker on the handler's stack. Calls share nothing, and may run at the same time on different buffers. */
 #ifndef FRODO_H
 #define FRODO_H
 

@@ -2,9 +2,9 @@
 //! computations that know nothing of the library. Outputs and scratches are dirty before each call; after it the fronts of the scratches are zero, later
 //! words are as they were. Built where FRODO_ARCHIVE names the folder of libfrodo_c.a.
 //!
-//! SEEDS=n: seeds a set (200). Every seed gets key generation, encapsulation, the margin and both decapsulations honestly, and then as many kinds of damage as
-//! DAMAGES says (4; `all` for every kind on every seed), in turn, so that each kind comes up equally often; every kind goes through `decapsulate`, and every
-//! second time through `decapsulate_shared_secret` too. All inputs are SHAKE256 of a fixed label, the set and the seed's number.
+//! SEEDS=n: seeds a set (200). Every seed gets key generation, encapsulation, the margin and both decapsulations honestly, and then every kind of damage, or as many
+//! as DAMAGES says, in turn, so that each kind comes up equally often; every kind goes through `decapsulate`, and every second time through
+//! `decapsulate_shared_secret` too. All inputs are SHAKE256 of a fixed label, the set and the seed's number.
 #[cfg(not(frodo_archive))]
 fn main() {
     eprintln!("built without FRODO_ARCHIVE: nothing to compare");
@@ -395,14 +395,13 @@ mod compare {
 
     pub fn run() {
         let number = |name: &str, otherwise: usize| match std::env::var(name) {
-            Ok(text) if name == "DAMAGES" && text == "all" => KINDS.len(),
             Ok(text) if !text.is_empty() => text.parse().unwrap_or_else(|_| {
                 println!("side-by-side: FAILED: {name}={text} is no number");
                 std::process::exit(1)
             }),
             _ => otherwise,
         };
-        let (seeds, damages) = (number("SEEDS", 200), number("DAMAGES", 4).min(KINDS.len()));
+        let (seeds, damages) = (number("SEEDS", 200), number("DAMAGES", KINDS.len()).min(KINDS.len()));
         let one = |k: u32| with_set!(k, K => set::<K>(k, seeds, damages), else unreachable!());
         // set 3 takes as long as the other two
         std::thread::scope(|scope| {
