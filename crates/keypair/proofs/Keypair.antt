@@ -13,9 +13,10 @@ use Rattle.lengths.specs.Sized.{KeypairSized}
 use Rattle.scheme.specs.Parts.{pkhOf}
 use Rattle.scheme.specs.KeyGen.{seedS, keyNoise, secretKey}
 use Rattle.scheme.proofs.Keys.{length-keyNoise, length-keyS, length-publicKey}
-use Rattle.keypair.specs.Made.{KeypairMade, PublicMade, SecretSized}
+use Rattle.keys.specs.Made.{PublicMade}
+use Rattle.keys.proofs.Matrices.{front-is-S}
+use Rattle.keypair.specs.Made.{KeypairMade, SecretSized}
 use Rattle.lists.proofs.Filled.{drop-later}
-use Rattle.keypair.proofs.Matrices.{front-is-S}
 
 module _ (p : Params) (seed pk sk noise work : List ℕ) (sized : KeypairSized p (length seed) (length pk) (length sk) (length noise) (length work)) {pk' noise' work' : List ℕ} (made : PublicMade p seed noise work pk' noise' work') where
   -- lengths that the secret key asks for

@@ -5,45 +5,15 @@ ghost use lib.ListN.{length};
 ghost use Rattle.bits.specs.Little.{bytesOf};
 ghost use Rattle.lengths.specs.Sized.{KeypairSized};
 ghost use Rattle.scheme.specs.Parts.{pkhOf};
-ghost use Rattle.scheme.specs.KeyGen.{seedS, keySeedA};
-ghost use Rattle.keypair.specs.Made.{MatrixSized, MatrixMade, PublicMade, SecretSized, KeypairMade};
-use codec::pack;
-use hashes::draw;
+ghost use Rattle.scheme.specs.KeyGen.{seedS};
+ghost use Rattle.keypair.specs.Made.{SecretSized, KeypairMade};
 use hashes::hash;
-use products::mul_add_as_plus_e_from_seed;
+use keys::public_key;
 use sets::Params;
 use words::bytes_of;
 use words::copy_bytes;
 use words::zero_bytes;
 use words::zero_words;
-
-// The key's matrices, where seedA is known. noise: S, E. work: B, then a row of A.
-pub fn key_matrix(p: Params, seed: &[u8], seed_a: &[u8], noise: &mut [u16], work: &mut [u16])
-    requires { ⌜ MatrixSized p (length (now seed)) (length (now noise)) (length (now work)) × (now «seed_a» ≡ keySeedA p (now seed)) ⌝ }
-    ensures { λ _. ⌜ MatrixMade p (now (seed .entry)) (now (noise .entry)) (now (work .entry)) (now (noise .exit)) (now (work .exit)) ⌝ }
-{
-    let from = p.secret;
-    let to = from + p.seedse;
-    let m = 8 * p.n;
-    let e = 16 * p.n;
-    let f = 9 * p.n;
-    draw(p, 0x5f, &seed[from..to], &mut noise[0..e]);
-    mul_add_as_plus_e_from_seed(p, seed_a, &noise[0..m], &noise[m..e], &mut work[0..f]);
-}
-
-// The public key: seedA, then B packed. The scratches as in `key_matrix`.
-pub fn public_key(p: Params, seed: &[u8], pk: &mut [u8], noise: &mut [u16], work: &mut [u16])
-    requires { ⌜ MatrixSized p (length (now seed)) (length (now noise)) (length (now work)) × (length (now pk) ≡ p .pk) ⌝ }
-    ensures { λ _. ⌜ PublicMade p (now (seed .entry)) (now (noise .entry)) (now (work .entry)) (now (pk .exit)) (now (noise .exit)) (now (work .exit)) ⌝ }
-{
-    let from = p.secret + p.seedse;
-    let to = p.seed;
-    let m = 8 * p.n;
-    let end = p.pk;
-    hash(p, &seed[from..to], &mut pk[0..16]);
-    key_matrix(p, seed, &pk[0..16], noise, work);
-    pack(p.d, &work[0..m], &mut pk[16..end]);
-}
 
 // The secret key: s, the public key, S with all 16 bits of its words, pkh.
 fn secret_key(p: Params, seed: &[u8], pk: &[u8], s: &[u16], sk: &mut [u8])

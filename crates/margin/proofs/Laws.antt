@@ -13,7 +13,7 @@ use Rattle.sets.specs.declared.Params.{Params}
 use Rattle.codec.specs.Pack.{packed}
 use Rattle.codec.proofs.RoundTrip.{packed-words}
 use Rattle.rows.proofs.Rows.{bits-le}
-use Rattle.keypair.specs.Made.{MatrixSized, MatrixMade}
+use Rattle.keys.specs.Made.{MatrixSized, MatrixMade}
 use Rattle.scheme.specs.Parts.{hash, noiseWords}
 use Rattle.scheme.specs.KeyGen.{keySeedA, keyNoise, keyS, keyE, keyB, publicKey}
 use Rattle.scheme.specs.Encaps.{draw, encNoise, encS, encE, encE2}

@@ -16,7 +16,7 @@ use Rattle.codec.proofs.RoundTrip.{packed-words, length-packed}
 use Rattle.scheme.specs.Parts.{hash}
 use Rattle.scheme.specs.KeyGen.{keySeedA, keyB, publicKey}
 use Rattle.scheme.proofs.Keys.{length-seedA, length-keyB}
-use Rattle.keypair.specs.Made.{MatrixMade, PublicMade}
+use Rattle.keys.specs.Made.{MatrixMade, PublicMade}
 use Rattle.lists.proofs.Filled.{length-front, Filled, first, next, room, whole}
 
 -- 15 and 16 are at most 16

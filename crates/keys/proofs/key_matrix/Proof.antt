@@ -1,9 +1,9 @@
--- `keypair::key_matrix` meets its contract: the noise is drawn, and the product of its parts is B.
+-- `keys::key_matrix` meets its contract: the noise is drawn, and the product of its parts is B.
 -- Assumes nothing.
 use borrow.Author.Needs.{needs}
-use Rattle.keypair.proofs.Matrices.{matrix-made}
-use Rattle.keypair.proofs.key_matrix.Statement.{statement}
-use Rattle.keypair.proofs.key_matrix.Tie as tie
+use Rattle.keys.proofs.Matrices.{matrix-made}
+use Rattle.keys.proofs.key_matrix.Statement.{statement}
+use Rattle.keys.proofs.key_matrix.Tie as tie
 
 returns : tie.Need-returns
 returns c =

@@ -15,7 +15,7 @@ use Rattle.rows.specs.Row.{matA}
 use Rattle.scheme.specs.Parts.{hash, noiseWords}
 use Rattle.scheme.specs.KeyGen.{keySeedA, keyNoise, keyS, keyE, keyB}
 use Rattle.scheme.proofs.Keys.{length-keyNoise}
-use Rattle.keypair.specs.Made.{MatrixSized, MatrixMade}
+use Rattle.keys.specs.Made.{MatrixSized, MatrixMade}
 use Rattle.lists.proofs.Filled.{length-front}
 
 module _ (p : Params) (valid : Valid p) (seed : List ℕ) where

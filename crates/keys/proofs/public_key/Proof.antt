@@ -1,10 +1,10 @@
--- `keypair::public_key` meets its contract: seedA, and B packed behind it.
+-- `keys::public_key` meets its contract: seedA, and B packed behind it.
 -- Assumes nothing.
 use borrow.Author.Needs.{needs}
 use native.Mathlib.Omega.{arith}
-use Rattle.keypair.proofs.PublicKey.{front-is-seedA, packs-B, public-made}
-use Rattle.keypair.proofs.public_key.Statement.{statement}
-use Rattle.keypair.proofs.public_key.Tie as tie
+use Rattle.keys.proofs.PublicKey.{front-is-seedA, packs-B, public-made}
+use Rattle.keys.proofs.public_key.Statement.{statement}
+use Rattle.keys.proofs.public_key.Tie as tie
 
 key-matrix-requires : tie.Need-key-matrix-requires
 key-matrix-requires c κs =

@@ -1,0 +1,2 @@
+-- What the public key asks and leaves.
+pub mod Made
