@@ -83,7 +83,7 @@ fn sampled(chi: Chi, words: &mut [u16], bytes: &mut [u8], expected: &[u8]) -> bo
 {
     every_word(words);
     noise::sample(chi, words);
-    replay_digests::words_digest_to(words, bytes, expected)
+    replay_answers::words_digest_to(words, bytes, expected)
 }
 
 // Every word, sampled.
@@ -112,7 +112,7 @@ fn decoded(p: Params, words: &mut [u16], bytes: &mut [u8], expected: &[u8]) -> b
 {
     every_word(words);
     decode_each(p.q, p.b, p.secret, words, bytes);
-    replay_digests::digest_is(bytes, expected)
+    replay_answers::digest_is(bytes, expected)
 }
 
 // Every word, decoded.
@@ -204,7 +204,7 @@ fn encode(p: Params, input: &[u8], expected: &[u8]) -> bool
     let mut words = [0u16; 64];
     let mut bytes = [0u8; 128];
     message::encode_message(p.q, p.b, input, &mut words);
-    replay_digests::words_digest_to(&words, &mut bytes, expected)
+    replay_answers::words_digest_to(&words, &mut bytes, expected)
 }
 
 // One line's input and answer. The lines on every word have the answer alone, as their third field.

@@ -4,7 +4,7 @@ use replay::Tally;
 use sets::Chosen;
 use sets::Params;
 ghost use mathlib.Core.Path.{_≡_};
-ghost use Prim.Native.Nat.{_*_, _≤_, _<_};
+ghost use Prim.Native.Nat.{_*_, _≤_};
 ghost use lib.ListN.{length};
 ghost use Rattle.sets.specs.Sets.{Valid};
 
@@ -85,80 +85,6 @@ fn command_of(name: &[u8]) -> Command {
     from_seed(name)
 }
 
-// The numbers of the rows that are tried.
-fn row_number(n: usize, k: usize) -> usize
-    requires { ⌜ (8 ≤ n) × (n ≤ 1344) ⌝ }
-    ensures { λ r. ⌜ r < 65536 ⌝ }
-{
-    match k {
-        0 => 0,
-        1 => 1,
-        2 => 255,
-        3 => 256,
-        _ => n - 1,
-    }
-}
-
-fn five_rows(p: Params, seed: &[u8], out: &mut [u16])
-    requires { ⌜ Valid p × (length (now out) ≡ p .n * 5) ⌝ }
-{
-    let n = p.n;
-    for k in 0..5 {
-        let at = n * k;
-        let end = at + n;
-        rows::row(p, seed, row_number(n, k), &mut out[at..end]);
-    }
-}
-
-// Each of these overwrites the front of `work`, of 9n words, and answers how many words the answer has. `noise` has matrices 1 and 2.
-fn rows_answer(p: Params, seed: &[u8], work: &mut [u16]) -> usize
-    requires { ⌜ Valid p × (length (now work) ≡ 9 * p .n) ⌝ }
-    ensures { λ r. ⌜ r ≤ 9 * p .n ⌝ }
-{
-    let k = p.n * 5;
-    five_rows(p, seed, &mut work[0..k]);
-    k
-}
-
-fn as_answer(p: Params, seed: &[u8], noise: &[u16], work: &mut [u16]) -> usize
-    requires { ⌜ Valid p × (length (now noise) ≡ 16 * p .n) × (length (now work) ≡ 9 * p .n) ⌝ }
-    ensures { λ r. ⌜ r ≤ 9 * p .n ⌝ }
-{
-    let m = 8 * p.n;
-    let end = 16 * p.n;
-    products::mul_add_as_plus_e_from_seed(p, seed, &noise[0..m], &noise[m..end], work);
-    m
-}
-
-fn sa_answer(p: Params, seed: &[u8], noise: &mut [u16], work: &mut [u16]) -> usize
-    requires { ⌜ Valid p × (length (now noise) ≡ 16 * p .n) × (length (now work) ≡ 9 * p .n) ⌝ }
-    ensures { λ r. ⌜ r ≤ 9 * p .n ⌝ }
-{
-    let m = 8 * p.n;
-    products::mul_add_sa_plus_e_from_seed(p, seed, noise, &mut work[0..m]);
-    m
-}
-
-fn sb_answer(p: Params, noise: &[u16], e: &[u16], work: &mut [u16]) -> usize
-    requires { ⌜ Valid p × (length (now noise) ≡ 16 * p .n) × (length (now e) ≡ 64) × (length (now work) ≡ 9 * p .n) ⌝ }
-    ensures { λ r. ⌜ r ≤ 9 * p .n ⌝ }
-{
-    let m = 8 * p.n;
-    let end = 16 * p.n;
-    products::mul_add_sb_plus_e(p, &noise[0..m], &noise[m..end], e, &mut work[0..64]);
-    64
-}
-
-fn bs_answer(p: Params, noise: &[u16], work: &mut [u16]) -> usize
-    requires { ⌜ Valid p × (length (now noise) ≡ 16 * p .n) × (length (now work) ≡ 9 * p .n) ⌝ }
-    ensures { λ r. ⌜ r ≤ 9 * p .n ⌝ }
-{
-    let m = 8 * p.n;
-    let end = 16 * p.n;
-    products::mul_bs(p, &noise[0..m], &noise[m..end], &mut work[0..64]);
-    64
-}
-
 // Matrix 1 and matrix 2, added or subtracted.
 fn with_second(p: Params, command: Command, first: &[u16], second: &mut [u16])
     requires { ⌜ Valid p × (length (now first) ≡ 64) × (length (now second) ≡ 64) ⌝ }
@@ -174,20 +100,10 @@ fn entries_answer(p: Params, command: Command, kind: u8, seed: &[u8], work: &mut
     ensures { λ r. ⌜ r ≤ 9 * p .n ⌝ }
 {
     let mut first = [0u16; 64];
-    replay_digests::matrix(kind, 1, seed, &mut first);
-    replay_digests::matrix(kind, 2, seed, &mut work[0..64]);
+    replay_answers::matrix(kind, 1, seed, &mut first);
+    replay_answers::matrix(kind, 2, seed, &mut work[0..64]);
     with_second(p, command, &first, &mut work[0..64]);
     64
-}
-
-// With matrix 3.
-fn sb_drawn_answer(p: Params, kind: u8, seed: &[u8], noise: &[u16], work: &mut [u16]) -> usize
-    requires { ⌜ Valid p × (length (now noise) ≡ 16 * p .n) × (length (now work) ≡ 9 * p .n) ⌝ }
-    ensures { λ r. ⌜ r ≤ 9 * p .n ⌝ }
-{
-    let mut third = [0u16; 64];
-    replay_digests::matrix(kind, 3, seed, &mut third);
-    sb_answer(p, noise, &third, work)
 }
 
 // The commands that make rows of A.
@@ -202,9 +118,9 @@ fn seeded_answer(
     ensures { λ r. ⌜ r ≤ 9 * p .n ⌝ }
 {
     match command {
-        Command::RowQ | Command::RowW => rows_answer(p, seed, work),
-        Command::AsQ | Command::AsW => as_answer(p, seed, noise, work),
-        _ => sa_answer(p, seed, noise, work),
+        Command::RowQ | Command::RowW => replay_answers::rows_answer(p, seed, work),
+        Command::AsQ | Command::AsW => replay_answers::as_answer(p, seed, noise, work),
+        _ => replay_answers::sa_answer(p, seed, noise, work),
     }
 }
 
@@ -219,10 +135,10 @@ fn answer(
     requires { ⌜ Valid p × (length (now noise) ≡ 16 * p .n) × (length (now work) ≡ 9 * p .n) ⌝ }
     ensures { λ r. ⌜ r ≤ 9 * p .n ⌝ }
 {
-    replay_digests::matrices(kind, seed, 8 * p.n, noise);
+    replay_answers::matrices(kind, seed, 8 * p.n, noise);
     match command {
-        Command::Sb => sb_drawn_answer(p, kind, seed, noise, work),
-        Command::Bs => bs_answer(p, noise, work),
+        Command::Sb => replay_answers::sb_answer(p, kind, seed, noise, work),
+        Command::Bs => replay_answers::bs_answer(p, noise, work),
         Command::Add | Command::Sub => entries_answer(p, command, kind, seed, work),
         Command::Other => 0,
         _ => seeded_answer(p, command, seed, noise, work),
@@ -235,7 +151,7 @@ fn words_digest_to(words: &[u16], expected: &[u8]) -> bool
 {
     let mut bytes = [0u8; 24192];
     let k = 2 * words.len();
-    replay_digests::words_digest_to(words, &mut bytes[0..k], expected)
+    replay_answers::words_digest_to(words, &mut bytes[0..k], expected)
 }
 
 fn residues_digest_to(p: Params, words: &mut [u16], expected: &[u8]) -> bool
