@@ -118,6 +118,24 @@ pub fn decimal(text: &[u8]) -> usize
     }
 }
 
+// The number in field k.
+pub fn number_in(line: &[u8], k: usize) -> u32 {
+    let f = field(line, k);
+    let a = f.start;
+    let b = f.end;
+    decimal(&line[a..b]) as u32
+}
+
+// The bytes of field k. Answers how many.
+pub fn bytes_in(line: &[u8], k: usize, out: &mut [u8]) -> usize
+    ensures { λ r. ⌜ r ≤ length (now (out .exit)) ⌝ }
+{
+    let f = field(line, k);
+    let a = f.start;
+    let b = f.end;
+    unhex(&line[a..b], out)
+}
+
 // Agreeing answers, and all of them. It stops counting at a million.
 pub struct Tally {
     pub right: usize,

@@ -60,21 +60,6 @@ fn kind_of(name: &[u8]) -> Kind {
     Kind::Other
 }
 
-// A long answer by its digest: 16 bytes of SHAKE256.
-fn digest_is(bytes: &[u8], expected: &[u8]) -> bool {
-    let mut out = [0u8; 16];
-    shake::shake(136, bytes, &mut out);
-    check::same(&out, expected)
-}
-
-// Words by the digest of their bytes.
-fn words_digest_to(words: &[u16], bytes: &mut [u8], expected: &[u8]) -> bool
-    requires { ⌜ length (now bytes) ≡ 2 * length (now words) ⌝ }
-{
-    words::bytes_of(words, bytes);
-    digest_is(bytes, expected)
-}
-
 // Words by their bytes.
 fn words_are(words: &[u16], bytes: &mut [u8], expected: &[u8]) -> bool
     requires { ⌜ length (now bytes) ≡ 2 * length (now words) ⌝ }
@@ -98,7 +83,7 @@ fn sampled(chi: Chi, words: &mut [u16], bytes: &mut [u8], expected: &[u8]) -> bo
 {
     every_word(words);
     noise::sample(chi, words);
-    words_digest_to(words, bytes, expected)
+    replay_answers::words_digest_to(words, bytes, expected)
 }
 
 // Every word, sampled.
@@ -127,7 +112,7 @@ fn decoded(p: Params, words: &mut [u16], bytes: &mut [u8], expected: &[u8]) -> b
 {
     every_word(words);
     decode_each(p.q, p.b, p.secret, words, bytes);
-    digest_is(bytes, expected)
+    replay_answers::digest_is(bytes, expected)
 }
 
 // Every word, decoded.
@@ -219,7 +204,7 @@ fn encode(p: Params, input: &[u8], expected: &[u8]) -> bool
     let mut words = [0u16; 64];
     let mut bytes = [0u8; 128];
     message::encode_message(p.q, p.b, input, &mut words);
-    words_digest_to(&words, &mut bytes, expected)
+    replay_answers::words_digest_to(&words, &mut bytes, expected)
 }
 
 // One line's input and answer. The lines on every word have the answer alone, as their third field.
@@ -239,33 +224,15 @@ fn agrees(p: Params, kind: Kind, third: &[u8], fourth: &[u8]) -> bool
     }
 }
 
-// The number in field k.
-fn number_in(line: &[u8], k: usize) -> u32 {
-    let f = replay::field(line, k);
-    let a = f.start;
-    let b = f.end;
-    replay::decimal(&line[a..b]) as u32
-}
-
-// The bytes of field k. Answers how many.
-fn bytes_in(line: &[u8], k: usize, out: &mut [u8]) -> usize
-    ensures { λ r. ⌜ r ≤ length (now (out .exit)) ⌝ }
-{
-    let f = replay::field(line, k);
-    let a = f.start;
-    let b = f.end;
-    replay::unhex(&line[a..b], out)
-}
-
 // One line of that kind: KIND SET, and its bytes.
 fn line_agrees(line: &[u8], kind: Kind) -> bool {
-    let Chosen::Known(p) = sets::choose(number_in(line, 1)) else {
+    let Chosen::Known(p) = sets::choose(replay::number_in(line, 1)) else {
         return false;
     };
     let mut third = [0u8; 64];
     let mut fourth = [0u8; 64];
-    let n = bytes_in(line, 2, &mut third);
-    let m = bytes_in(line, 3, &mut fourth);
+    let n = replay::bytes_in(line, 2, &mut third);
+    let m = replay::bytes_in(line, 3, &mut fourth);
     agrees(p, kind, &third[0..n], &fourth[0..m])
 }
 

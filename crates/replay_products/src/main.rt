@@ -3,9 +3,8 @@
 use replay::Tally;
 use sets::Chosen;
 use sets::Params;
-use shake::Sponge;
 ghost use mathlib.Core.Path.{_≡_};
-ghost use Prim.Native.Nat.{_*_, _≤_, _<_};
+ghost use Prim.Native.Nat.{_*_, _≤_};
 ghost use lib.ListN.{length};
 ghost use Rattle.sets.specs.Sets.{Valid};
 
@@ -86,115 +85,6 @@ fn command_of(name: &[u8]) -> Command {
     from_seed(name)
 }
 
-// Words all alike.
-fn fill(word: u16, out: &mut [u16]) {
-    for i in 0..out.len() {
-        out[i] = word;
-    }
-}
-
-// The words of SHAKE128 over two parts of an input.
-fn draw(front: &[u8], seed: &[u8], out: &mut [u16]) {
-    let p = Sponge::new(168);
-    let p = p.absorb(front);
-    let p = p.absorb(seed);
-    let p = p.finish();
-    p.squeeze_words(out);
-}
-
-// Matrix t of a line.
-fn matrix(kind: u8, t: u8, seed: &[u8], out: &mut [u16]) {
-    let front = [t];
-    match kind {
-        b'f' => fill(0xffff, out),
-        b'z' => fill(0, out),
-        _ => draw(&front, seed, out),
-    }
-}
-
-// Matrices 1 and 2, of m words each.
-fn matrices(kind: u8, seed: &[u8], m: usize, out: &mut [u16])
-    requires { ⌜ length (now out) ≡ 2 * m ⌝ }
-{
-    let end = out.len();
-    matrix(kind, 1, seed, &mut out[0..m]);
-    matrix(kind, 2, seed, &mut out[m..end]);
-}
-
-// The numbers of the rows that are tried.
-fn row_number(n: usize, k: usize) -> usize
-    requires { ⌜ (8 ≤ n) × (n ≤ 1344) ⌝ }
-    ensures { λ r. ⌜ r < 65536 ⌝ }
-{
-    match k {
-        0 => 0,
-        1 => 1,
-        2 => 255,
-        3 => 256,
-        _ => n - 1,
-    }
-}
-
-fn five_rows(p: Params, seed: &[u8], out: &mut [u16])
-    requires { ⌜ Valid p × (length (now out) ≡ p .n * 5) ⌝ }
-{
-    let n = p.n;
-    for k in 0..5 {
-        let at = n * k;
-        let end = at + n;
-        rows::row(p, seed, row_number(n, k), &mut out[at..end]);
-    }
-}
-
-// Each of these overwrites the front of `work`, of 9n words, and answers how many words the answer has. `noise` has matrices 1 and 2.
-fn rows_answer(p: Params, seed: &[u8], work: &mut [u16]) -> usize
-    requires { ⌜ Valid p × (length (now work) ≡ 9 * p .n) ⌝ }
-    ensures { λ r. ⌜ r ≤ 9 * p .n ⌝ }
-{
-    let k = p.n * 5;
-    five_rows(p, seed, &mut work[0..k]);
-    k
-}
-
-fn as_answer(p: Params, seed: &[u8], noise: &[u16], work: &mut [u16]) -> usize
-    requires { ⌜ Valid p × (length (now noise) ≡ 16 * p .n) × (length (now work) ≡ 9 * p .n) ⌝ }
-    ensures { λ r. ⌜ r ≤ 9 * p .n ⌝ }
-{
-    let m = 8 * p.n;
-    let end = 16 * p.n;
-    products::mul_add_as_plus_e_from_seed(p, seed, &noise[0..m], &noise[m..end], work);
-    m
-}
-
-fn sa_answer(p: Params, seed: &[u8], noise: &mut [u16], work: &mut [u16]) -> usize
-    requires { ⌜ Valid p × (length (now noise) ≡ 16 * p .n) × (length (now work) ≡ 9 * p .n) ⌝ }
-    ensures { λ r. ⌜ r ≤ 9 * p .n ⌝ }
-{
-    let m = 8 * p.n;
-    products::mul_add_sa_plus_e_from_seed(p, seed, noise, &mut work[0..m]);
-    m
-}
-
-fn sb_answer(p: Params, noise: &[u16], e: &[u16], work: &mut [u16]) -> usize
-    requires { ⌜ Valid p × (length (now noise) ≡ 16 * p .n) × (length (now e) ≡ 64) × (length (now work) ≡ 9 * p .n) ⌝ }
-    ensures { λ r. ⌜ r ≤ 9 * p .n ⌝ }
-{
-    let m = 8 * p.n;
-    let end = 16 * p.n;
-    products::mul_add_sb_plus_e(p, &noise[0..m], &noise[m..end], e, &mut work[0..64]);
-    64
-}
-
-fn bs_answer(p: Params, noise: &[u16], work: &mut [u16]) -> usize
-    requires { ⌜ Valid p × (length (now noise) ≡ 16 * p .n) × (length (now work) ≡ 9 * p .n) ⌝ }
-    ensures { λ r. ⌜ r ≤ 9 * p .n ⌝ }
-{
-    let m = 8 * p.n;
-    let end = 16 * p.n;
-    products::mul_bs(p, &noise[0..m], &noise[m..end], &mut work[0..64]);
-    64
-}
-
 // Matrix 1 and matrix 2, added or subtracted.
 fn with_second(p: Params, command: Command, first: &[u16], second: &mut [u16])
     requires { ⌜ Valid p × (length (now first) ≡ 64) × (length (now second) ≡ 64) ⌝ }
@@ -210,10 +100,28 @@ fn entries_answer(p: Params, command: Command, kind: u8, seed: &[u8], work: &mut
     ensures { λ r. ⌜ r ≤ 9 * p .n ⌝ }
 {
     let mut first = [0u16; 64];
-    matrix(kind, 1, seed, &mut first);
-    matrix(kind, 2, seed, &mut work[0..64]);
+    replay_answers::matrix(kind, 1, seed, &mut first);
+    replay_answers::matrix(kind, 2, seed, &mut work[0..64]);
     with_second(p, command, &first, &mut work[0..64]);
     64
+}
+
+// The commands that make rows of A.
+fn seeded_answer(
+    p: Params,
+    command: Command,
+    seed: &[u8],
+    noise: &mut [u16],
+    work: &mut [u16],
+) -> usize
+    requires { ⌜ Valid p × (length (now noise) ≡ 16 * p .n) × (length (now work) ≡ 9 * p .n) ⌝ }
+    ensures { λ r. ⌜ r ≤ 9 * p .n ⌝ }
+{
+    match command {
+        Command::RowQ | Command::RowW => replay_answers::rows_answer(p, seed, work),
+        Command::AsQ | Command::AsW => replay_answers::as_answer(p, seed, noise, work),
+        _ => replay_answers::sa_answer(p, seed, noise, work),
+    }
 }
 
 fn answer(
@@ -227,36 +135,23 @@ fn answer(
     requires { ⌜ Valid p × (length (now noise) ≡ 16 * p .n) × (length (now work) ≡ 9 * p .n) ⌝ }
     ensures { λ r. ⌜ r ≤ 9 * p .n ⌝ }
 {
-    let mut third = [0u16; 64];
-    matrices(kind, seed, 8 * p.n, noise);
-    matrix(kind, 3, seed, &mut third);
+    replay_answers::matrices(kind, seed, 8 * p.n, noise);
     match command {
-        Command::RowQ | Command::RowW => rows_answer(p, seed, work),
-        Command::AsQ | Command::AsW => as_answer(p, seed, noise, work),
-        Command::SaQ | Command::SaW => sa_answer(p, seed, noise, work),
-        Command::Sb => sb_answer(p, noise, &third, work),
-        Command::Bs => bs_answer(p, noise, work),
+        Command::Sb => replay_answers::sb_answer(p, kind, seed, noise, work),
+        Command::Bs => replay_answers::bs_answer(p, noise, work),
         Command::Add | Command::Sub => entries_answer(p, command, kind, seed, work),
         Command::Other => 0,
+        _ => seeded_answer(p, command, seed, noise, work),
     }
 }
 
-// Words by the digest of their bytes: 16 bytes of SHAKE256.
-fn digest_to(words: &[u16], bytes: &mut [u8], expected: &[u8]) -> bool
-    requires { ⌜ length (now bytes) ≡ 2 * length (now words) ⌝ }
-{
-    let mut out = [0u8; 16];
-    words::bytes_of(words, bytes);
-    shake::shake(136, bytes, &mut out);
-    check::same(&out, expected)
-}
-
+// Words by the digest of their bytes.
 fn words_digest_to(words: &[u16], expected: &[u8]) -> bool
     requires { ⌜ length (now words) ≤ 12096 ⌝ }
 {
     let mut bytes = [0u8; 24192];
     let k = 2 * words.len();
-    digest_to(words, &mut bytes[0..k], expected)
+    replay_answers::words_digest_to(words, &mut bytes[0..k], expected)
 }
 
 fn residues_digest_to(p: Params, words: &mut [u16], expected: &[u8]) -> bool
@@ -309,24 +204,6 @@ fn agrees(p: Params, command: Command, kind: u8, seed: &[u8], expected: &[u8]) -
     )
 }
 
-// The number in field k.
-fn number_in(line: &[u8], k: usize) -> u32 {
-    let f = replay::field(line, k);
-    let a = f.start;
-    let b = f.end;
-    replay::decimal(&line[a..b]) as u32
-}
-
-// The bytes of field k. Answers how many.
-fn bytes_in(line: &[u8], k: usize, out: &mut [u8]) -> usize
-    ensures { λ r. ⌜ r ≤ length (now (out .exit)) ⌝ }
-{
-    let f = replay::field(line, k);
-    let a = f.start;
-    let b = f.end;
-    replay::unhex(&line[a..b], out)
-}
-
 // The letter of how matrices are made, or 0.
 fn kind_of(name: &[u8]) -> u8 {
     if name.len() != 1 {
@@ -349,7 +226,7 @@ fn kind_in(line: &[u8], k: usize) -> u8 {
 
 // One line of that command: COMMAND SET KIND SEED DIGEST.
 fn line_agrees(line: &[u8], command: Command) -> bool {
-    let Chosen::Known(p) = sets::choose(number_in(line, 1)) else {
+    let Chosen::Known(p) = sets::choose(replay::number_in(line, 1)) else {
         return false;
     };
     let kind = kind_in(line, 2);
@@ -358,8 +235,8 @@ fn line_agrees(line: &[u8], command: Command) -> bool {
     }
     let mut seed = [0u8; 16];
     let mut expected = [0u8; 16];
-    let n = bytes_in(line, 3, &mut seed);
-    let m = bytes_in(line, 4, &mut expected);
+    let n = replay::bytes_in(line, 3, &mut seed);
+    let m = replay::bytes_in(line, 4, &mut expected);
     match command {
         Command::Other => false,
         _ => agrees(p, command, kind, &seed[0..n], &expected[0..m]),
@@ -392,13 +269,18 @@ fn lines(text: &[u8], command: Command) -> Tally {
     tally
 }
 
-fn report(text: &[u8]) {
+// The commands on rows of A and from its seed.
+fn report_seeded(text: &[u8]) {
     replay::report(b"rows of A mod q", lines(text, Command::RowQ));
     replay::report(b"rows of A", lines(text, Command::RowW));
     replay::report(b"A * S + E mod q", lines(text, Command::AsQ));
     replay::report(b"A * S + E", lines(text, Command::AsW));
     replay::report(b"S' * A + E' mod q", lines(text, Command::SaQ));
     replay::report(b"S' * A + E'", lines(text, Command::SaW));
+}
+
+fn report(text: &[u8]) {
+    report_seeded(text);
     replay::report(b"S' * B + E''", lines(text, Command::Sb));
     replay::report(b"B' * S", lines(text, Command::Bs));
     replay::report(b"sums", lines(text, Command::Add));

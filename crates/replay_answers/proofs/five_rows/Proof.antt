@@ -6,8 +6,8 @@ use Prim.Native.Nat.{_+_, _*_, _≤_, _-_}
 use mathlib.Core.Path.{_≡_}
 use lib.ListN.{length}
 use Rattle.lists.proofs.Spans.{room, length-part}
-use Rattle.replay_products.proofs.five_rows.Statement.{statement}
-use Rattle.replay_products.proofs.five_rows.Tie as tie
+use Rattle.replay_answers.proofs.five_rows.Statement.{statement}
+use Rattle.replay_answers.proofs.five_rows.Tie as tie
 
 abbrev Inv-loop : tie.InvT-loop
 Inv-loop p seed out₀ n k₀ out k = (k ≤ 5) × (length out ≡ length out₀)

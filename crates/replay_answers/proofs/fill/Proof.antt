@@ -5,8 +5,8 @@ use native.Mathlib.Omega.{arith}
 use Prim.Native.Nat.{_≤_, _-_}
 use mathlib.Core.Path.{_≡_}
 use lib.ListN.{length}
-use Rattle.replay_products.proofs.fill.Statement.{statement}
-use Rattle.replay_products.proofs.fill.Tie as tie
+use Rattle.replay_answers.proofs.fill.Statement.{statement}
+use Rattle.replay_answers.proofs.fill.Tie as tie
 
 abbrev Inv-loop : tie.InvT-loop
 Inv-loop word out₀ i₀ i-end out i = (i ≤ i-end) × (i-end ≡ length out) × (length out ≡ length out₀)

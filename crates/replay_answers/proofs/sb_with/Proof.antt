@@ -1,11 +1,11 @@
--- `sb_answer` is safe: the parts have the lengths of the matrices.
+-- `sb_with` is safe: the parts have the lengths of the matrices.
 -- Assumes nothing.
 use borrow.Author.Needs.{needs}
-use Rattle.replay_products.proofs.sb_answer.Statement.{statement}
-use Rattle.replay_products.proofs.sb_answer.Tie as tie
+use Rattle.replay_answers.proofs.sb_with.Statement.{statement}
+use Rattle.replay_answers.proofs.sb_with.Tie as tie
 
-pub sb-answer-spec : {M : Type 1} → statement M
-sb-answer-spec =
+pub sb-with-spec : {M : Type 1} → statement M
+sb-with-spec =
     tie.close
     (tie.spec
     (λ c. search needs)

@@ -5,8 +5,8 @@ use mathlib.Core.List.{[], _++_}
 use borrow.Author.Needs.{needs}
 use native.Mathlib.Omega.{arith}
 use Rattle.shake.proofs.Uses.{Absorbed, none, more, ready, squeezing, even}
-use Rattle.replay_products.proofs.draw.Statement.{statement}
-use Rattle.replay_products.proofs.draw.Tie as tie
+use Rattle.replay_answers.proofs.draw.Statement.{statement}
+use Rattle.replay_answers.proofs.draw.Tie as tie
 
 began : (c : tie.After-new) → Absorbed 168 [] (c .new .result)
 began c = none (omega arith, omega arith) (c .new .ensures)
