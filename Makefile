@@ -32,7 +32,9 @@ prove:
 	mkdir -p build
 	rt ci | tee build/ci.log
 
+# What is not proved yet is proved on all cores first.
 lib:
+	rt check frodo_c
 	rt staticlib frodo_c
 	mkdir -p dist
 	cp target/staticlib/libfrodo_c.a include/frodo.h dist/
