@@ -1,56 +1,76 @@
-# make test           the whole gate: layout, proofs, must-fail edits, replayed answers, then the tests on the library below; its last line is the prover's
-#                     'N passed, 0 failed'
-# make lib            the library: dist/libfrodo_c.a and dist/frodo.h
-# make host           the Rust crate's tests, the C example and README's
-# make demo           a crash report sealed, opened, damaged, explained and repaired by the frodo program
-# make frodo          the program itself, build/rust/release/frodo
-# make cli            the program's commands as a user types them, each with its status and words
-# make stack          the stack that each call takes
-# make signal         a process with a broken heap seals its report in a signal handler; another process opens it
-# make hostile        guard pages, wrong lengths and sets, unset memory
-# make side-by-side   every call beside frodo-kem-rs, byte for byte (FRODO_KEM_RS names its folder, SEEDS=20 makes it short)
-# make bench          speed beside other code, as ratios
-# make oracle         builds frodo-kem-rs from its own source (FRODO_KEM_RS names its folder), for the lists in tests/lists
-# make lists          makes the lists of answers again: wants the oracle
-.PHONY: test layout prove lib host frodo demo cli stack signal hostile side-by-side bench oracle lists clean
+# make test             the whole gate: layout, proofs, must-fail edits, replayed answers, then the tests on the library below; its last line is the prover's
+#                       'N passed, 0 failed'
+# make lib              the library for this machine's processor: dist/libfrodo_c.a and dist/frodo.h
+#                       PROCESSOR=x86-64 or PROCESSOR=aarch64 names another processor: dist/PROCESSOR/
+# make host             the Rust crate's tests, the C example and README's
+# make demo             a crash report sealed, opened, damaged, explained and repaired by the frodo program
+# make frodo            the program itself, build/rust/release/frodo
+# make cli              the program's commands as a user types them, each with its status and words
+# make stack            the stack that each call takes
+# make signal           a process with a broken heap seals its report in a signal handler; another process opens it
+# make hostile          guard pages, wrong lengths and sets, unset memory
+# make side-by-side     every call beside frodo-kem-rs, byte for byte (FRODO_KEM_RS names its folder, SEEDS=20 makes it short)
+# make other-processor  the library of the other processor, and its C tests under an emulator (no part of the gate)
+# make bench            speed beside other code, as ratios
+# make oracle           builds frodo-kem-rs from its own source (FRODO_KEM_RS names its folder), for the lists in tests/lists
+# make lists            makes the lists of answers again: wants the oracle
+.PHONY: test layout wanted prove lib host frodo demo cli c-tests seal stack signal hostile unset side-by-side other-processor bench oracle lists clean
 .NOTPARALLEL:
 
-SHELL = /bin/bash -o pipefail
+SHELL = /bin/bash
+.SHELLFLAGS = -o pipefail -c
 CFLAGS = -std=c11 -D_GNU_SOURCE -O2 -g -Wall -Wextra -Werror
 # Bound when the program starts: a memcpy that is bound at its first use runs the dynamic linker on the caller's stack.
 LDFLAGS = -Wl,-z,now
 
-test: layout prove host cli stack signal hostile side-by-side
-	@echo "the library's tests have passed; the prover had said:"
+# The processor, before anything else is done. What is known of it stands in host/c/processor alone.
+ABOUT := $(shell host/c/processor $(PROCESSOR))
+ifneq ($(.SHELLSTATUS),0)
+$(error nothing was built or proved)
+endif
+about = $(patsubst $1=%,%,$(filter $1=%,$(ABOUT)))
+ifeq ($(call about,native),yes)
+DIST := dist
+BUILD := build
+RUN :=
+else
+# another processor's library and programs, in folders of their own, and the emulator that runs them
+DIST := dist/$(call about,name)
+BUILD := build/$(call about,name)
+CC := $(call about,prefix)gcc
+RUN := $(call about,qemu) -L $(call about,sysroot)
+endif
+
+test: wanted layout prove host cli c-tests side-by-side
+	@echo "the library's tests have passed, on $(call about,name); the prover had said:"
 	@tail -n 1 build/ci.log
 
 layout:
 	rt fmt --check
 
+# What a build and its tests lean on, before the first proof.
+wanted:
+	tests/wanted/check
+
 # From nothing; what it proved is then compiled and not proved again.
 prove:
-	mkdir -p build
-	rt ci | tee build/ci.log
+	tests/prove/run build/ci.log ci
 
 # What is not proved yet is proved on all cores first.
-lib:
-	rt check frodo_c
-	rt staticlib frodo_c
-	mkdir -p dist
-	cp target/staticlib/libfrodo_c.a include/frodo.h dist/
-	tests/lib/check dist/libfrodo_c.a
+lib: wanted
+	tests/prove/run build/prove.log check frodo_c
+	host/c/archive frodo_c $(call about,name) $(DIST)/libfrodo_c.a
+	cmp -s include/frodo.h $(DIST)/frodo.h || cp include/frodo.h $(DIST)/
+	tests/lib/check $(DIST)/libfrodo_c.a
 
-build/%: tests/%.c tests/lengths.h dist/libfrodo_c.a dist/frodo.h
+$(BUILD)/%: tests/%.c tests/lengths.h $(DIST)/libfrodo_c.a $(DIST)/frodo.h
 	mkdir -p $(@D)
-	$(CC) $(CFLAGS) -Idist $< dist/libfrodo_c.a $(LDFLAGS) -o $@
+	$(CC) $(CFLAGS) -I$(DIST) $< $(DIST)/libfrodo_c.a $(LDFLAGS) -o $@
 
-dist/libfrodo_c.a dist/frodo.h: lib
+$(DIST)/libfrodo_c.a $(DIST)/frodo.h: lib
 
-host: lib
+host: lib seal
 	cd host/rust && CARGO_TARGET_DIR=$(CURDIR)/build/rust cargo test --offline --quiet
-	mkdir -p build
-	$(CC) $(CFLAGS) -Idist examples/c/seal.c dist/libfrodo_c.a $(LDFLAGS) -o build/seal
-	build/seal
 	tests/readme/run
 
 frodo: lib
@@ -62,23 +82,37 @@ demo: frodo
 cli: frodo
 	tests/cli/run build/rust/release/frodo
 
-stack: build/stack/stack
-	build/stack/stack
+# The library from C.
+c-tests: seal stack signal hostile unset
 
-signal: build/signal/signal
-	build/signal/signal
+seal: $(DIST)/libfrodo_c.a $(DIST)/frodo.h
+	mkdir -p $(BUILD)
+	$(CC) $(CFLAGS) -I$(DIST) examples/c/seal.c $(DIST)/libfrodo_c.a $(LDFLAGS) -o $(BUILD)/seal
+	$(RUN) $(BUILD)/seal
 
-hostile: build/hostile/hostile
-	build/hostile/hostile
+stack: $(BUILD)/stack/stack
+	$(RUN) $(BUILD)/stack/stack
+
+signal: $(BUILD)/signal/signal
+	$(RUN) $(BUILD)/signal/signal
+
+hostile: $(BUILD)/hostile/hostile
+	$(RUN) $(BUILD)/hostile/hostile
+
+unset: dist/libfrodo_c.a
 	tests/hostile/unset
 
 side-by-side: dist/libfrodo_c.a
 	tests/oracle/side-by-side
 
+other-processor:
+	tests/other/run $(call about,other)
+
 bench: dist/libfrodo_c.a
-	rt staticlib bench_c
+	tests/prove/run build/prove.log check bench_c
+	host/c/archive bench_c $(call about,name) build/bench/libbench_c.a
 	tests/bench/run
-	BENCH_ARCHIVE=$(CURDIR)/target/staticlib FRODO_ARCHIVE=$(CURDIR)/dist tests/oracle/build
+	BENCH_ARCHIVE=$(CURDIR)/build/bench FRODO_ARCHIVE=$(CURDIR)/dist tests/oracle/build
 	build/oracle/target/release/rows
 	build/oracle/target/release/calls
 

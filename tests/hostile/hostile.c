@@ -19,7 +19,7 @@
 #include "../lengths.h"
 #include "frodo.h"
 
-#define PAGE 4096
+#define PAGE 65536 /* a multiple of every page size that Linux has on these processors */
 #define ROOM 65536    /* bytes of a buffer's memory, more than any set wants */
 #define SECONDS 300   /* a run that takes longer has not come back */
 

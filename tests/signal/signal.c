@@ -28,7 +28,7 @@
 #define WANTED_STACK 8192
 #define MOST_STACK 65536
 #define HANDLER_MOST 4096
-#define PAGE 4096
+#define PAGE 65536 /* a multiple of every page size that Linux has on these processors */
 #define PAINT 0xA5
 #define REPORT 512
 #define SEALED 77   /* the dying process's exit status once the report is written */

@@ -1,7 +1,7 @@
 /* The stack that each call takes, for every set, done and refused.
  *
  * Each call is made on a stack of its own, painted beforehand, with a guard page below it. Counted are the bytes from the stack pointer at the call
- * instruction down to the lowest byte that the call wrote: the return address and everything below it, what memcpy and memset take included. Not counted
+ * instruction down to the lowest byte that the call wrote: the return address where the processor puts it there, and everything below it, what memcpy and memset take included. Not counted
  * are the caller's own frame and, as part of it, the arguments that the call instruction finds on the stack (shown in a column of their own). Two paints
  * are used, so that a byte which happens to be written with the paint's own value is seen in the other run. Then each call is made once more with exactly
  * LIMIT bytes between the stack pointer and the guard page, so that a deeper touch, also a read, stops the run.
@@ -19,12 +19,16 @@
 
 #define LIMIT 8192
 #define STACK 65536
-#define PAGE 4096
+#define PAGE 65536 /* a multiple of every page size that Linux has on these processors */
 #define LENGTHS_CALL CALLS
 
-/* Calls with n whole-number arguments on another stack: registers take six, the rest are pushed. top is a multiple of 16, and where the number of pushed
- * arguments is odd the stack pointer at the call instruction is kept a multiple of 16 as the ABI asks. *at gets the stack pointer at the call instruction. */
-uint64_t call_on(void *function, const uint64_t *arguments, uint64_t n, void *top, uint64_t *at);
+/* Calls with n whole-number arguments on another stack: registers take the first REGISTERS, the rest lie on that stack in their order, and the stack pointer at
+ * the call instruction, which *at gets, is a multiple of 16 as both ABIs ask. top is a multiple of 16. Where the call answers a struct, Arm has the pointer to it in a
+ * register of its own, and x86-64 as the first argument. */
+uint64_t call_on(void *function, const uint64_t *arguments, uint64_t n, void *top, uint64_t *at, void *answer);
+#if defined(__x86_64__)
+#define REGISTERS 6
+#define ANSWER_IS_ARGUMENT 1
 __asm__(
     ".text\n"
     ".globl call_on\n"
@@ -60,6 +64,43 @@ __asm__(
     "    pop %rbx\n"
     "    pop %rbp\n"
     "    ret\n");
+#elif defined(__aarch64__)
+#define REGISTERS 8
+#define ANSWER_IS_ARGUMENT 0
+__asm__(
+    ".text\n"
+    ".globl call_on\n"
+    "call_on:\n"
+    "    stp x29, x30, [sp, #-16]!\n"
+    "    mov x29, sp\n"
+    "    mov x16, x0\n"              /* function */
+    "    mov x17, x1\n"              /* arguments */
+    "    mov x8, x5\n"               /* answer */
+    "    subs x10, x2, #8\n"         /* how many lie on the stack */
+    "    b.ls 2f\n"
+    "    add x11, x10, #1\n"
+    "    and x11, x11, #-2\n"
+    "    sub x3, x3, x11, lsl #3\n"
+    "    add x12, x17, #64\n"
+    "    mov x13, #0\n"
+    "1:  ldr x14, [x12, x13, lsl #3]\n"
+    "    str x14, [x3, x13, lsl #3]\n"
+    "    add x13, x13, #1\n"
+    "    cmp x13, x10\n"
+    "    b.lo 1b\n"
+    "2:  mov sp, x3\n"               /* the other stack */
+    "    str x3, [x4]\n"
+    "    ldp x0, x1, [x17]\n"
+    "    ldp x2, x3, [x17, #16]\n"
+    "    ldp x4, x5, [x17, #32]\n"
+    "    ldp x6, x7, [x17, #48]\n"
+    "    blr x16\n"
+    "    mov sp, x29\n"
+    "    ldp x29, x30, [sp], #16\n"
+    "    ret\n");
+#else
+#error "the stack is measured on x86-64 and on Arm (aarch64)"
+#endif
 
 static uint8_t *stack; /* STACK bytes above a guard page */
 static uint8_t seed[112], pk[21520], sk[43088], ct[21696], message[32], salt[64], ss[32];
@@ -93,7 +134,7 @@ static void lend(struct made *m, void *from, size_t elements) {
 static void make(struct made *m, int call, uint32_t set, int short_by) {
     const uint32_t *length = paper_length[set >= 1 && set <= 3 ? set - 1 : 2];
     m->n = 0;
-    if (call == MARGIN || call == LENGTHS_CALL) m->arguments[m->n++] = (uint64_t)(uintptr_t)&m->by_pointer;
+    if (ANSWER_IS_ARGUMENT && (call == MARGIN || call == LENGTHS_CALL)) m->arguments[m->n++] = (uint64_t)(uintptr_t)&m->by_pointer;
     m->arguments[m->n++] = set;
     size_t work_words = length[WORK] - (size_t)short_by;
     switch (call) {
@@ -180,9 +221,9 @@ int main(void) {
                 uint8_t paint = turn == 0 ? 0xA5 : 0x5A;
                 memset(stack, paint, STACK);
                 uint8_t *top = stack + STACK;
-                size_t above = m.n > 6 ? ((m.n - 6) * 8 + 15) / 16 * 16 : 0; /* what call_on puts above the stack pointer at the call */
+                size_t above = m.n > REGISTERS ? ((m.n - REGISTERS) * 8 + 15) / 16 * 16 : 0; /* what call_on puts above the stack pointer at the call */
                 if (turn == 2) top = stack + LIMIT + above;
-                uint64_t returned = call_on(m.function, m.arguments, m.n, top, &at);
+                uint64_t returned = call_on(m.function, m.arguments, m.n, top, &at, &m.by_pointer);
                 if (answer(&m, call, returned) != kinds[k].number) fail("another answer than the paper's", set, name);
                 size_t low = 0;
                 while (low < STACK && stack[low] == paint) low++;
@@ -190,7 +231,7 @@ int main(void) {
                 if (at % 16 != 0) fail("the stack pointer at the call is not a multiple of 16", set, name);
                 if (turn == 2 && at - (uint64_t)(uintptr_t)stack != LIMIT) fail("the tight stack is not LIMIT bytes", set, name);
                 if (depth > deepest) deepest = depth;
-                pushed = m.n > 6 ? 8 * (m.n - 6) : 0;
+                pushed = m.n > REGISTERS ? 8 * (m.n - REGISTERS) : 0;
             }
             printf("%-34s %-24s %3u %12llu %20llu\n", name, kinds[k].what, set, (unsigned long long)deepest, (unsigned long long)pushed);
             if (deepest > most) most = deepest;
