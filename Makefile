@@ -8,7 +8,7 @@
 # make cli              the program's commands as a user types them, each with its status and words
 # make stack            the stack that each call takes
 # make signal           a process with a broken heap seals its report in a signal handler; another process opens it
-# make hostile          guard pages, wrong lengths and sets, unset memory
+# make hostile          guard pages, wrong lengths and sets (HOSTILE="20000 6" makes fewer calls); make unset runs over unset memory
 # make side-by-side     every call beside frodo-kem-rs, byte for byte (FRODO_KEM_RS names its folder, SEEDS=20 makes it short)
 # make other-processor  the library of the other processor, and its C tests under an emulator (no part of the gate)
 # make bench            speed beside other code, as ratios
@@ -94,10 +94,10 @@ stack: $(BUILD)/stack/stack
 	$(RUN) $(BUILD)/stack/stack
 
 signal: $(BUILD)/signal/signal
-	$(RUN) $(BUILD)/signal/signal
+	$(if $(RUN),FRODO_RUN='$(RUN)') $(RUN) $(BUILD)/signal/signal
 
 hostile: $(BUILD)/hostile/hostile
-	$(RUN) $(BUILD)/hostile/hostile
+	$(RUN) $(BUILD)/hostile/hostile $(HOSTILE)
 
 unset: dist/libfrodo_c.a
 	tests/hostile/unset

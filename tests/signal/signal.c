@@ -4,6 +4,8 @@
  *   signal                                    the whole test, sets 1 to 3: makes the key pair, starts the dying process, opens what it left
  *   signal die SET KEY-FILE REPORT STACK      the dying process: it has the public key only, and STACK bytes of alternate stack above a guard page
  *
+ * FRODO_RUN names the emulator where the processor is not the machine's: the dying process is started through it too.
+ *
  * The kernel's own signal frame lies on the same stack, and its size is the machine's: where 8 KiB do not hold it, the output says so, and the least that holds.
  * The program is linked with -z now: a memcpy that is bound at its first use runs the dynamic linker on the alternate stack, which takes some KB more.
  *
@@ -170,7 +172,10 @@ static pid_t start(uint32_t of_set, const char *self, const char *key_file, cons
     snprintf(bytes, sizeof bytes, "%d", stack_bytes);
     pid_t child = fork();
     if (child == 0) {
-        execl(self, self, "die", number, key_file, name, bytes, (char *)NULL);
+        if (getenv("FRODO_RUN") == NULL)
+            execl(self, self, "die", number, key_file, name, bytes, (char *)NULL);
+        else
+            execl("/bin/sh", "sh", "-c", "exec $FRODO_RUN \"$0\" \"$@\"", self, "die", number, key_file, name, bytes, (char *)NULL);
         _exit(28);
     }
     if (child < 0 || waitpid(child, status, 0) != child) fail(of_set, "no process", errno);
@@ -231,7 +236,7 @@ int main(int n, char **words) {
     char folder[] = "/tmp/frodo-signal-XXXXXX";
     if (mkdtemp(folder) == NULL) fail(0, "no folder", errno);
     printf("signal: the kernel says that a signal frame takes up to %lu bytes (AT_MINSIGSTKSZ)\n", getauxval(AT_MINSIGSTKSZ));
-    for (uint32_t s = 1; s <= 3; s++) whole(s, "/proc/self/exe", folder);
+    for (uint32_t s = 1; s <= 3; s++) whole(s, words[0], folder);
     rmdir(folder);
     printf("signal: 3 reports sealed and opened\n");
     return 0;
