@@ -7,7 +7,7 @@
 
 KIND is 0, no damage; 1 or 2, the byte at PLACE of the ciphertext or of the secret key with BITS exclusive-ored in; 3 or 4, every byte of
 it replaced by SHAKE128 over SEED. PLACE and SIZE are two bytes, big-endian. A digest is 16 bytes of SHAKE256.
-The crate has no margin: sizes are computed here from the proposal, with hashlib's SHAKE and whole numbers. Only the public key is the oracle's."""
+The crate has no margin: sizes are computed here from the FrodoKEM standard proposal (2023), with hashlib's SHAKE and whole numbers. Only the public key is the oracle's."""
 import hashlib
 from oracle import D, N, Oracle, SECRET, SEED_SE, digest, random, unwords, write
 
