@@ -1,6 +1,6 @@
 /* FrodoKEM for a dying process: no heap, no global state, no errno; every call comes back, whatever it is lent.
  *
- * Sets 1, 2 and 3 are FrodoKEM-640-SHAKE, FrodoKEM-976-SHAKE and FrodoKEM-1344-SHAKE of the 2023 standard proposal (with a salt).
+ * Sets 1, 2 and 3 are FrodoKEM-640-SHAKE, FrodoKEM-976-SHAKE and FrodoKEM-1344-SHAKE of the FrodoKEM standard proposal (2023), with a salt.
  *
  *                             set 1     set 2     set 3
  *   key seed                     64        88       112   bytes

@@ -1,4 +1,4 @@
-/* Document 01's table of lengths and its refusals, written from the paper for the tests in C: no length here comes from the library. */
+/* The table of lengths and the refusals (docs/RULES.md, 2.1, 3.1 and 3.2), written from the paper for the tests in C: no length here comes from the library. */
 #ifndef TESTS_LENGTHS_H
 #define TESTS_LENGTHS_H
 

@@ -1,4 +1,4 @@
-"""FrodoKEM-640-SHAKE and the margin in plain Python, written from the 2023 standard proposal and document 01: what the program's answers are held against."""
+"""FrodoKEM-640-SHAKE and the margin in plain Python, written from the FrodoKEM standard proposal (2023) and docs/RULES.md, 4: what the program's answers are held against."""
 import hashlib
 
 N, Q, B, SECRET = 640, 1 << 15, 2, 16

@@ -1,5 +1,5 @@
 /* Hostile calls: every buffer lies between two guard pages, flush against one of them, so that one byte outside stops the run; sets and lengths are right,
- * wrong, another set's or random, and every answer is held to document 01's table (tests/lengths.h).
+ * wrong, another set's or random, and every answer is held to docs/RULES.md, 3.1 and 3.2 (tests/lengths.h).
  *
  *   refused   the number is the paper's, and every byte of every buffer, lent or not, is as it was
  *   done      outputs are written whole (the same call over other dirt and at other places gives the same bytes), inputs stand, the seed of key generation is

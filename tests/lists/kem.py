@@ -7,11 +7,11 @@
 
 KIND is 0, no damage; 1 or 2, the byte at PLACE of the ciphertext or of the secret key with BITS exclusive-ored in; 3 or 4, every byte of
 it replaced by SHAKE128 over SEED. PLACE and SIZE are two bytes, big-endian. A digest is 16 bytes of SHAKE256.
-The crate has no margin: sizes are computed here from the proposal, with hashlib's SHAKE and whole numbers. Only the public key is the oracle's."""
+The crate has no margin: sizes are computed here from the FrodoKEM standard proposal (2023), with hashlib's SHAKE and whole numbers. Only the public key is the oracle's."""
 import hashlib
 from oracle import D, N, Oracle, SECRET, SEED_SE, digest, random, unwords, write
 
-# Document 01, module 5: the tables of the noise, without the last entry, which is left out.
+# docs/RULES.md, 4.5: the tables of the noise, without the last entry, which is left out.
 TABLE = {
     1: [4643, 13363, 20579, 25843, 29227, 31145, 32103, 32525, 32689, 32745, 32762, 32766],
     2: [5638, 15915, 23689, 28571, 31116, 32217, 32613, 32731, 32760, 32766],
@@ -33,7 +33,7 @@ def noise(s, front, seed_se, count):
 
 
 def largest_size(s, seed, pk, msg, salt):
-    """Document 01, module 11. S is stored transposed, E row by row; S', E' and E'' row by row."""
+    """docs/RULES.md, 4.11. S is stored transposed, E row by row; S', E' and E'' row by row."""
     n, q, secret = N[s], 2 ** D[s], SECRET[s]
     drawn = noise(s, 0x5F, seed[secret : secret + SEED_SE[s]], 16 * n)
     columns_s = [drawn[j * n : j * n + n] for j in range(8)]

@@ -6,12 +6,12 @@
     pack SET WORDS BYTES        eight words
     unpack SET BYTES WORDS      the bytes of eight words
     encode SET MSG DIGEST       a message's 64 words
-    one_sample SET WORD WORD, one_decode SET WORD GROUP      document 01's numbers on each side of an edge, checked here against it
+    one_sample SET WORD WORD, one_decode SET WORD GROUP      the numbers of docs/RULES.md, 5, checked here against it
 
 A digest is 16 bytes of SHAKE256."""
 from oracle import B, D, Oracle, SECRET, digest, random, text, unwords, words, write
 
-# document 01, "Numbers on each side of an edge": marked and unmarked
+# docs/RULES.md, 5: marked and unmarked
 DECODE = {1: {4095: 0, 4096: 1, 28671: 3, 28672: 0}, 2: {61439: 7, 61440: 0}, 3: {2047: 0, 2048: 1, 63487: 15, 63488: 0}}
 SAMPLE = {1: {9286: 0, 9288: 1, 9289: 65535, 1: 0, 65532: 11, 65535: 65524}, 2: {65535: 65526}, 3: {65535: 65530}}
 PACK = {1: {(1, 0, 0, 0, 0, 0, 0, 0): "0002" + "00" * 13, (0, 0, 0, 0, 0, 0, 0, 1): "00" * 14 + "01", (0x7FFF,) * 8: "ff" * 15, (0x8000,) + (0,) * 7: "00" * 15},
@@ -24,7 +24,7 @@ lines = ["# frodo-kem-rs 0.9.1's answers for sampling, message coding and packin
 
 def same(what, found, said):
     if found != said:
-        raise SystemExit(f"{what}: the oracle says {found}, document 01 {said}")
+        raise SystemExit(f"{what}: the oracle says {found}, the rules {said}")
 
 
 def group(s, word):
@@ -46,7 +46,7 @@ for s in (1, 2, 3):
         same(f"set {s} decode {word}", group(s, word), is_)
         lines.append(f"one_decode {s} {words([word]).hex()} {is_:02x}")
 
-    # eight words: document 01's, all alike, one bit alone, random
+    # eight words: those of docs/RULES.md, 5, all alike, one bit alone, random
     eights = list(PACK[s]) + [(v,) * 8 for v in (0, 1, 0x7FFF, 0x8000, 0xFFFF)]
     eights += [tuple(1 << bit if k == place else 0 for k in range(8)) for place in range(8) for bit in range(16)]
     eights += [tuple(unwords(random(f"pack {s} {k}", 16))) for k in range(100)]
@@ -61,7 +61,7 @@ for s in (1, 2, 3):
     for stream in streams:
         lines.append(f"unpack {s} {stream.hex()} {oracle.ask('unpack', s, stream.hex())[0]}")
 
-    # messages: document 01's, all alike, one bit alone, random
+    # messages: those of docs/RULES.md, 5, all alike, one bit alone, random
     n = SECRET[s]
     messages = [bytes.fromhex(front) + bytes(n - len(front) // 2) for front in ENCODE[s]] + [bytes(n), bytes([255]) * n]
     messages += [bytes(1 << bit if k == place else 0 for k in range(n)) for place in range(n) for bit in range(8)]

@@ -1,4 +1,4 @@
--- Encapsulation redone and compared (document 01, module 10) as laws of lists: what the callees leave makes up the comparison.
+-- Encapsulation redone and compared (docs/RULES.md, 4.10) as laws of lists: what the callees leave makes up the comparison.
 -- Assumes nothing.
 use mathlib.Core.Path.{_≡_, sym, ap, ap₂, _∙_}
 use mathlib.Core.List.{List, _++_}

@@ -1,4 +1,4 @@
--- What redoing encapsulation asks of its lengths, and what the comparison of the first matrix leaves (document 01, module 10).
+-- What redoing encapsulation asks of its lengths, and what the comparison of the first matrix leaves (docs/RULES.md, 4.10).
 -- Lists are named as on entry, and with ' as on exit.
 -- Assumes nothing.
 use mathlib.Core.Path.{_≡_}

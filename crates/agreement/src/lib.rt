@@ -1,4 +1,4 @@
-// Whether a ciphertext is what encapsulation gives again (document 01, module 10): both of its matrices are compared with those that are made anew, mod q.
+// Whether a ciphertext is what encapsulation gives again (docs/RULES.md, 4.10): both of its matrices are compared with those that are made anew, mod q.
 // No branch and no index depends on a value that is secret.
 use ciphertext::c1_of;
 use ciphertext::c2_of;

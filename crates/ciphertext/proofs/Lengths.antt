@@ -1,4 +1,4 @@
--- The parts of a ciphertext (document 01, "The three sets and their lengths") have their lengths.
+-- The parts of a ciphertext (docs/RULES.md, 2.2) have their lengths.
 -- Assumes nothing.
 use mathlib.Core.Path.{_≡_, ap, _∙_}
 use mathlib.Core.List.{List}

@@ -1,4 +1,4 @@
--- What a view of a ciphertext asks (document 01, "The three sets and their lengths"): a set, and bytes of its ciphertexts' length.
+-- What a view of a ciphertext asks (docs/RULES.md, 2.1): a set, and bytes of its ciphertexts' length.
 -- Assumes nothing.
 use mathlib.Core.Path.{_≡_}
 use Prim.Native.Nat.{ℕ}

@@ -1,4 +1,4 @@
-// A ciphertext as its holder lends it (document 01, "What must change shape": `CiphertextRef`), and its three parts: c1, then c2, then the salt.
+// A ciphertext as its holder lends it (docs/RULES.md, 7.9), and its three parts: c1, then c2, then the salt.
 use sets::Params;
 ghost use mathlib.Core.Path.{_≡_};
 ghost use lib.ListN.{length};

@@ -1,4 +1,4 @@
--- Packing and unpacking, over d: lengths, bounds, and the two round trips of document 01, module 3. Eight words of d bits are d bytes.
+-- Packing and unpacking, over d: lengths, bounds, and the two round trips of docs/RULES.md, 4.3. Eight words of d bits are d bytes.
 -- Assumes nothing.
 use mathlib.Core.Path.{_≡_, _∙_, subst}
 use mathlib.Core.List.{List}

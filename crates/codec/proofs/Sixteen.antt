@@ -1,4 +1,4 @@
--- A word of 16 bits is two bytes, the higher first (document 01, module 3).
+-- A word of 16 bits is two bytes, the higher first (docs/RULES.md, 4.3).
 -- Assumes nothing.
 use mathlib.Core.Path.{_≡_, refl}
 use mathlib.Core.List.{[], _∷_}

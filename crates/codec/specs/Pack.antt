@@ -1,5 +1,5 @@
--- Frodo.Pack and Frodo.Unpack (Algorithms 3 and 4 of the FrodoKEM specification of 2021, unchanged in the standard proposal of 2023); document 01, module 3. Each word's d bits, highest first, in a row, cut into bytes, highest
--- bit first; and back. d is the number of bits of q.
+-- FrodoKEM standard proposal (2023), Frodo.Pack and Frodo.Unpack; docs/RULES.md, 4.3. Each word's d bits, highest first, in a row, cut into bytes, highest bit first; and back.
+-- d is the number of bits of q.
 -- Assumes nothing.
 use mathlib.Core.List.{List}
 use Prim.Native.Nat.{ℕ, _*_, _/_}

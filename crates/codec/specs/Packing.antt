@@ -1,4 +1,4 @@
--- What packing asks of its lengths (document 01, module 3): eight words of d bits are d bytes, and d is 15 or 16.
+-- What packing asks of its lengths (docs/RULES.md, 4.3): eight words of d bits are d bytes, and d is 15 or 16.
 -- A caller with `Valid p` of the crate sets gives its d-cases, n, w ≡ 8 * n and b ≡ d * n.
 -- Assumes nothing.
 use mathlib.Core.Path.{_≡_}

@@ -1,4 +1,4 @@
-// Packing of words into bytes and back (document 01, module 3): eight words of 15 bits are 15 bytes; a word of 16 bits is two bytes, the higher first.
+// Packing of words into bytes and back (docs/RULES.md, 4.3): eight words of 15 bits are 15 bytes; a word of 16 bits is two bytes, the higher first.
 ghost use mathlib.Core.Path.{_≡_};
 ghost use Prim.Native.Nat.{_*_};
 ghost use lib.ListN.{length};

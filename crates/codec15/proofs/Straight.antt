@@ -1,4 +1,4 @@
--- The straight-line formulas are the bit string of document 01, module 3: eight words of 15 bits as bytes, and fifteen bytes as words.
+-- The straight-line formulas are the bit string of docs/RULES.md, 4.3: eight words of 15 bits as bytes, and fifteen bytes as words.
 -- Assumes nothing.
 use mathlib.Core.Path.{_≡_, refl}
 use mathlib.Core.List.{[], _∷_}

@@ -1,4 +1,4 @@
-// The 15-bit words of document 01, module 3, in straight lines of whole-number formulas: eight words are fifteen bytes, highest bit first.
+// The 15-bit words of docs/RULES.md, 4.3, in straight lines of whole-number formulas: eight words are fifteen bytes, highest bit first.
 ghost use mathlib.Core.Path.{_≡_};
 ghost use mathlib.Core.List.{[], _∷_};
 ghost use lib.ListN.{length};

@@ -1,4 +1,4 @@
--- The steps of decapsulation (document 01, module 10) as laws of lists: what the callees leave makes up the choice and the secret.
+-- The steps of decapsulation (docs/RULES.md, 4.10) as laws of lists: what the callees leave makes up the choice and the secret.
 -- Assumes nothing.
 use mathlib.Core.Path.{_≡_, ap, ap₂, _∙_}
 use mathlib.Core.Bool.{Bool, cond}

@@ -1,4 +1,4 @@
--- What decapsulation leaves in what it was lent (document 01, module 10, and what holds after 0).
+-- What decapsulation leaves in what it was lent (docs/RULES.md, 4.10 and 3.3).
 -- Lists are named as on entry, and with ' as on exit.
 -- Assumes nothing.
 use mathlib.Core.Path.{_≡_}

@@ -1,4 +1,4 @@
-// Decapsulation (document 01, module 10) in lent memory, for lengths that the caller has tested. The stored pkh is used as it stands.
+// Decapsulation (docs/RULES.md, 4.10) in lent memory, for lengths that the caller has tested. The stored pkh is used as it stands.
 use agreement::both_agree;
 use ciphertext::salt_of;
 use hashes::hash2;

@@ -1,4 +1,4 @@
--- Document 01, "Numbers on each side of an edge": what it says of packing, encoding, decoding and sampling, as one table. Every number marked * there is here, and
+-- Numbers on each side of an edge (docs/RULES.md, 5): those of packing, encoding, decoding and sampling, as one table. Every number marked * there is here, and
 -- the unmarked ones beside them.
 -- Assumes nothing.
 use mathlib.Core.Bool.{Bool, true, false, _&&_}
@@ -38,7 +38,7 @@ unfoldable pub all : List Case → Bool
 all [] = true
 all (c ∷ cs) = holds c && all cs
 
--- the document's numbers, in its order
+-- the rules' numbers, in their order
 unfoldable pub cases : List Case
 cases =
     pack frodo640 (1 ∷ replicate 7 0) (0x00 ∷ 0x02 ∷ replicate 13 0x00)

@@ -1,2 +1,2 @@
--- The document's own numbers.
+-- The rules' own numbers.
 pub mod Edges

@@ -1,4 +1,4 @@
-// Eight words at a time, by value: what a product's loop does in one turn (document 01, module 7).
+// Eight words at a time, by value: what a product's loop does in one turn (docs/RULES.md, 4.7).
 use words::low;
 use words::mac;
 ghost use mathlib.Core.Path.{_≡_};

@@ -1,4 +1,4 @@
--- What encapsulation leaves when it is done (document 01, module 9, and "When the runtime is turned away"): both outputs whole, the scratch's own words zero, and
+-- What encapsulation leaves when it is done (docs/RULES.md, 4.9 and 3.3): both outputs whole, the scratch's own words zero, and
 -- later words of the scratch as they were.
 -- Assumes nothing.
 use mathlib.Core.Path.{_≡_}

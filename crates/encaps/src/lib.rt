@@ -1,4 +1,4 @@
-// Encapsulation (document 01, module 9) in lent memory, for lengths that the caller has tested.
+// Encapsulation (docs/RULES.md, 4.9) in lent memory, for lengths that the caller has tested.
 use codec::pack;
 use hashes::hash;
 use hashes::hash2;

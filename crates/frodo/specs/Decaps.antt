@@ -1,4 +1,4 @@
--- All that `decapsulate` and `decapsulate_shared_secret` leave, whatever they are lent (document 01, module 10).
+-- All that `decapsulate` and `decapsulate_shared_secret` leave, whatever they are lent (docs/RULES.md, 4.10).
 -- Assumes nothing.
 use mathlib.Core.List.{List}
 use Prim.Native.Nat.{ℕ}

@@ -1,4 +1,4 @@
--- All that `encapsulate` leaves, whatever it is lent (document 01, module 9).
+-- All that `encapsulate` leaves, whatever it is lent (docs/RULES.md, 4.9).
 -- Assumes nothing.
 use mathlib.Core.List.{List}
 use Prim.Native.Nat.{ℕ}

@@ -1,4 +1,4 @@
--- All that `generate_keypair_from_seed` leaves, whatever it is lent (document 01, module 8).
+-- All that `generate_keypair_from_seed` leaves, whatever it is lent (docs/RULES.md, 4.8).
 -- Assumes nothing.
 use mathlib.Core.List.{List}
 use Prim.Native.Nat.{ℕ}

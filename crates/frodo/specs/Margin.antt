@@ -1,4 +1,4 @@
--- All that `margin` leaves, whatever it is lent (document 01, module 11).
+-- All that `margin` leaves, whatever it is lent (docs/RULES.md, 4.11).
 -- Assumes nothing.
 use mathlib.Core.List.{List}
 use Prim.Native.Nat.{ℕ}

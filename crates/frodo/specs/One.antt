@@ -1,4 +1,4 @@
--- "What a signature on a function is worth" (document 01): of one input a call's contract admits one outcome.
+-- docs/RULES.md, 6.1: of one input a call's contract admits one outcome.
 -- Assumes nothing.
 use mathlib.Core.Path.{_≡_}
 use Rattle.frodo.specs.Keypair.{KeypairLent, KeypairLeft, keypairLeaves}

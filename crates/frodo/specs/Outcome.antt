@@ -1,4 +1,4 @@
--- Document 01, "When the runtime is turned away": a call is done, or it is refused and leaves every byte and word lent as it was.
+-- docs/RULES.md, 3.3: a call is done, or it is refused and leaves every byte and word lent as it was.
 -- Assumes nothing.
 use mathlib.Core.Bool.{cond}
 use Prim.Native.Nat.{ℕ}

@@ -1,4 +1,4 @@
--- The lengths of a set as the runtime asks for them (document 01, "The three sets and their lengths"): all 0 where the number is no set.
+-- The lengths of a set as the runtime asks for them (docs/RULES.md, 2.1): all 0 where the number is no set.
 -- Assumes nothing.
 use mathlib.Core.Bool.{cond}
 use Prim.Native.Nat.{ℕ}

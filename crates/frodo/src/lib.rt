@@ -1,4 +1,4 @@
-// The calls that the runtime makes (document 01, modules 8 to 11). None has a `requires`: a wrong set number, length or scratch is refused, and then
+// The calls that the runtime makes (docs/RULES.md, 4.8 to 4.11). None has a `requires`: a wrong set number, length or scratch is refused, and then
 // nothing that was lent has changed. What each leaves is one equation, by the definitions of specs/.
 use ratio::Margin;
 use sets::Answer;

@@ -1,4 +1,4 @@
--- The table of lengths as the C interface answers it, in numbers of 32 bits (document 01, "The three sets and their lengths").
+-- The table of lengths as the C interface answers it, in numbers of 32 bits (docs/RULES.md, 2.1).
 -- Assumes nothing.
 use Prim.Native.Nat.{_≤_}
 use Rattle.frodo.specs.declared.SetLengths.{SetLengths}

@@ -1,4 +1,4 @@
--- FIPS 202, section 3.2.5: the round constants that the register of Algorithm 5 gives, as the list that the code has.
+-- FIPS 202 (2015), iota: the round constants that the register of rc(t) gives, as the list that the code has.
 -- Assumes nothing.
 use mathlib.Core.Path.{_≡_, refl, ap, _∙_}
 use mathlib.Core.List.{List, [], _∷_}

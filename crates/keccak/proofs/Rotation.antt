@@ -1,4 +1,4 @@
--- FIPS 202, section 3.2.2: what rho's rotation is in the code's shifts, and the offsets of Algorithm 2 as a list.
+-- FIPS 202 (2015), rho: what its rotation is in the code's shifts, and the offsets that its walk gives, as a list.
 -- Assumes nothing.
 use mathlib.Core.Path.{_≡_, refl, sym, ap, _∙_, subst}
 use mathlib.Core.List.{[], _∷_}
@@ -31,7 +31,7 @@ pub rotl-zero : (x : ℕ) → x < 2 ^ 64 → rotl x 0 ≡ x
 unfolding rotl
 rotl-zero x l = (λ i. (ap (λ (n : ℕ). n % 2 ^ 64) (mul-one x) ∙ mod-eq-of-lt l) i + div-eq-of-lt l i) ∙ add-zero x
 
--- the walk of Algorithm 2 gives these offsets
+-- rho's walk gives these offsets
 pub offsets-are : offsets ≡ 0 ∷ 1 ∷ 62 ∷ 28 ∷ 27 ∷ 36 ∷ 44 ∷ 6 ∷ 55 ∷ 20 ∷ 3 ∷ 10 ∷ 43 ∷ 25 ∷ 39 ∷ 41 ∷ 45 ∷ 15 ∷ 21 ∷ 8 ∷ 18 ∷ 2 ∷ 61 ∷ 56 ∷ 14 ∷ []
 unfolding offsets
 offsets-are = refl

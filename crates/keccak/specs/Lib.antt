@@ -1,2 +1,2 @@
--- FIPS 202, section 3.
+-- FIPS 202 (2015), KECCAK-p[1600, 24].
 pub mod Keccak

@@ -1,4 +1,4 @@
-// FIPS 202, section 3: KECCAK-p[1600, 24]. The state is 25 lanes by value, lane (x, y) at x + 5 y; the steps have the names of section 3.2.
+// FIPS 202 (2015), KECCAK-p[1600, 24] (docs/RULES.md, 4.1 and 7.3). The state is 25 lanes by value, lane (x, y) at x + 5 y; the steps have their names there.
 ghost use mathlib.Core.Path.{_≡_};
 ghost use Prim.Native.Nat.{_<_};
 ghost use mathlib.Core.List.{[], _∷_};

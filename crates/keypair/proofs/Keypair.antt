@@ -1,4 +1,4 @@
--- Both keys, and what is zeroed (document 01, module 8): the steps make up the call.
+-- Both keys, and what is zeroed (docs/RULES.md, 4.8): the steps make up the call.
 -- Assumes nothing.
 use mathlib.Core.Path.{_≡_, ap, _∙_}
 use mathlib.Core.List.{List, _++_}

@@ -1,4 +1,4 @@
--- The secret key (document 01): s, the public key, S and pkh, written one after the other.
+-- The secret key (docs/RULES.md, 2.2): s, the public key, S and pkh, written one after the other.
 -- Assumes nothing.
 use mathlib.Core.Path.{_≡_, ap, _∙_}
 use mathlib.Core.List.{List, _++_, append-assoc}

@@ -1,4 +1,4 @@
--- What key generation leaves in what it was lent (document 01, module 8, and what holds after 0). Lists are named as on entry, and with ' as on exit.
+-- What key generation leaves in what it was lent (docs/RULES.md, 4.8 and 3.3). Lists are named as on entry, and with ' as on exit.
 -- Assumes nothing.
 use mathlib.Core.Path.{_≡_}
 use mathlib.Core.List.{List}

@@ -1,4 +1,4 @@
-// Key generation from a seed, where all lengths are right (document 01, module 8).
+// Key generation from a seed, where all lengths are right (docs/RULES.md, 4.8).
 ghost use mathlib.Core.Path.{_≡_};
 ghost use mathlib.Core.List.{_++_};
 ghost use lib.ListN.{length};

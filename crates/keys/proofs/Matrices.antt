@@ -1,4 +1,4 @@
--- S, E and B (document 01, module 8): the noise that is drawn and the product of its parts are the scheme's.
+-- S, E and B (docs/RULES.md, 4.8): the noise that is drawn and the product of its parts are the scheme's.
 -- Assumes nothing.
 use mathlib.Core.Path.{_≡_, ap, ap₂, _∙_}
 use mathlib.Core.List.{List, _∷_, _++_}

@@ -1,4 +1,4 @@
--- The public key (document 01): seedA in its first 16 bytes, and B packed behind them.
+-- The public key (docs/RULES.md, 2.2): seedA in its first 16 bytes, and B packed behind them.
 -- Assumes nothing.
 use mathlib.Core.Path.{_≡_, ap, ap₂, _∙_}
 use mathlib.Core.List.{List, _++_}

@@ -1,4 +1,4 @@
--- What the public key and its matrices ask and leave in what they were lent (document 01, module 8). Lists are named as on entry, and with ' as on exit.
+-- What the public key and its matrices ask and leave in what they were lent (docs/RULES.md, 4.8). Lists are named as on entry, and with ' as on exit.
 -- Assumes nothing.
 use mathlib.Core.Path.{_≡_}
 use mathlib.Core.List.{List, _++_}

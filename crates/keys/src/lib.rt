@@ -1,4 +1,4 @@
-// The public key of a seed and the matrices behind it, where all lengths are right (document 01, module 8).
+// The public key of a seed and the matrices behind it, where all lengths are right (docs/RULES.md, 4.8).
 ghost use mathlib.Core.Path.{_≡_};
 ghost use lib.ListN.{length};
 ghost use Rattle.scheme.specs.KeyGen.{keySeedA};

@@ -1,4 +1,4 @@
-// The loops inside the products, on words mod 2^16: a row times a matrix, and a row of A taken into a product (document 01, module 7).
+// The loops inside the products, on words mod 2^16: a row times a matrix, and a row of A taken into a product (docs/RULES.md, 4.7).
 use eights::column8;
 use eights::load8;
 use eights::mac8;

@@ -1,4 +1,4 @@
--- How the noise of the key and of encapsulation come to stand in the scratches (document 01, module 11), as laws of lists.
+-- How the noise of the key and of encapsulation come to stand in the scratches (docs/RULES.md, 4.11), as laws of lists.
 -- Assumes nothing.
 use mathlib.Core.Path.{_≡_, sym, ap, ap₂, _∙_}
 use mathlib.Core.List.{List, _∷_, _++_, append-assoc}

@@ -1,4 +1,4 @@
--- The noise of a sealed message and its margin (document 01, module 11), as laws of lists: what the products and the measure leave is what the scheme states.
+-- The noise of a sealed message and its margin (docs/RULES.md, 4.11), as laws of lists: what the products and the measure leave is what the scheme states.
 -- Assumes nothing.
 use mathlib.Core.Path.{_≡_, sym, ap, _∙_, subst}
 use mathlib.Core.List.{List, _++_, append-assoc}

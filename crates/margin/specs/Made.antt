@@ -1,4 +1,4 @@
--- What the margin answers, and leaves in what it was lent (document 01, module 11, and what holds after 0), whole and step by step.
+-- What the margin answers, and leaves in what it was lent (docs/RULES.md, 4.11 and 3.3), whole and step by step.
 -- Lists are named as on entry, and with ' as on exit.
 -- Assumes nothing.
 use mathlib.Core.Path.{_≡_}

@@ -1,4 +1,4 @@
-// The margin, where all lengths are right (document 01, module 11).
+// The margin, where all lengths are right (docs/RULES.md, 4.11).
 ghost use mathlib.Core.Path.{_≡_};
 ghost use mathlib.Core.List.{_++_};
 ghost use Prim.Native.Nat.{_≤_};

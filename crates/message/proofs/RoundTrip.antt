@@ -1,4 +1,4 @@
--- Messages, groups of bits and words, over q and b: lengths, bounds, and that decoding an encoding gives the message (document 01, module 4).
+-- Messages, groups of bits and words, over q and b: lengths, bounds, and that decoding an encoding gives the message (docs/RULES.md, 4.4).
 -- b bytes are eight groups of b bits.
 -- Assumes nothing.
 use mathlib.Core.Path.{_≡_, refl, sym, ap, _∙_, subst}

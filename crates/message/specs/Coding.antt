@@ -1,4 +1,4 @@
--- The q and b with which messages are coded (document 01, "The three sets and their lengths"): what the laws and the code rely on.
+-- The q and b with which messages are coded (docs/RULES.md, 2.1): what the laws and the code rely on.
 -- It follows from `Valid p` of the crate sets for the set's own q and b: d is the set's, q-is, b-low and b-high are its fields, and d-cases says that d is
 -- 15 or 16, which is at most 16 and more than b.
 -- Assumes nothing.

@@ -1,4 +1,4 @@
--- Frodo.Encode and Frodo.Decode (Algorithms 1 and 2 of the FrodoKEM specification of 2021, unchanged in the standard proposal of 2023); document 01, module 4. A message's bits, lowest first, in groups of b; a group m becomes the
+-- FrodoKEM standard proposal (2023), Frodo.Encode and Frodo.Decode; docs/RULES.md, 4.4. A message's bits, lowest first, in groups of b; a group m becomes the
 -- word m * q/2^b; a word is decoded to the nearest group.
 -- Assumes nothing.
 use mathlib.Core.List.{List, map}

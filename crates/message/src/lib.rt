@@ -1,4 +1,4 @@
-// Coding of messages (document 01, module 4), once over q and b. Each b bytes are a number, whose eight groups of b bits, the lowest first, are the words.
+// Coding of messages (docs/RULES.md, 4.4), once over q and b. Each b bytes are a number, whose eight groups of b bits, the lowest first, are the words.
 // Secret numbers are shifted and masked, and never divided by a number that is not a constant.
 ghost use mathlib.Core.Path.{_≡_};
 ghost use mathlib.Core.List.{map};

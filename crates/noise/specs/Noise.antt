@@ -1,4 +1,4 @@
--- Frodo.Sample (Algorithm 7.4 of the FrodoKEM standard proposal of 2023; Algorithm 5 of the specification of 2021) with the tables of document 01, module 5.
+-- FrodoKEM standard proposal (2023), Frodo.Sample, with the tables of docs/RULES.md, 4.5.
 -- From a word r take t = floor(r/2): the size is the count of table entries below t, the last entry left out; an odd r negates it; it is stored mod 2^16.
 -- Assumes nothing.
 use mathlib.Core.Bool.{Bool, true, false}

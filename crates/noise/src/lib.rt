@@ -1,4 +1,4 @@
-// Sampling of noise (document 01, module 5): words of random bits become words of noise, in place, by the set's table. No word is branched on.
+// Sampling of noise (docs/RULES.md, 4.5): words of random bits become words of noise, in place, by the set's table. No word is branched on.
 ghost use mathlib.Core.Path.{_≡_};
 ghost use mathlib.Core.List.{map};
 ghost use Prim.Native.Nat.{_≤_, _<_};

@@ -1,4 +1,4 @@
--- Opening a ciphertext (document 01, module 10) as laws of lists: what the callees leave makes up the message.
+-- Opening a ciphertext (docs/RULES.md, 4.10) as laws of lists: what the callees leave makes up the message.
 -- Assumes nothing.
 use mathlib.Core.Path.{_≡_, refl, sym, ap, _∙_}
 use mathlib.Core.List.{List, _++_, append-assoc, append-nil}

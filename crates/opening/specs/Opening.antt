@@ -1,4 +1,4 @@
--- What opening a ciphertext asks of its lengths (document 01, "The three sets and their lengths"), and a choice as a number.
+-- What opening a ciphertext asks of its lengths (docs/RULES.md, 2.1), and a choice as a number.
 -- Assumes nothing.
 use mathlib.Core.Path.{_≡_}
 use mathlib.Core.Bool.{Bool, cond}

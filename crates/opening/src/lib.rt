@@ -1,4 +1,4 @@
-// What decapsulation has besides encapsulation's own steps (document 01, module 10): the message that a ciphertext opens to, the comparison of two
+// What decapsulation has besides encapsulation's own steps (docs/RULES.md, 4.10): the message that a ciphertext opens to, the comparison of two
 // matrices, and the choice of one of two secrets. No branch and no index depends on a value that is secret.
 use ciphertext::c1_of;
 use ciphertext::c2_of;

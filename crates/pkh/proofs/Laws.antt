@@ -1,4 +1,4 @@
--- A sponge that takes packed words eight at a time takes the packing of all of them (document 01, module 3).
+-- A sponge that takes packed words eight at a time takes the packing of all of them (docs/RULES.md, 4.3).
 -- Assumes nothing.
 use mathlib.Core.Path.{_≡_, refl, sym, ap, _∙_, subst}
 use mathlib.Core.List.{List, [], _∷_, _++_}

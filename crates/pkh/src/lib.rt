@@ -1,4 +1,4 @@
-// pkh from seedA and the words of B (document 01, module 8), without memory for the bytes of the public key.
+// pkh from seedA and the words of B (docs/RULES.md, 4.8), without memory for the bytes of the public key.
 ghost use mathlib.Core.Path.{_≡_};
 ghost use mathlib.Core.List.{_++_};
 ghost use Prim.Native.Nat.{_*_, _≤_};

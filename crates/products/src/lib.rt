@@ -1,4 +1,4 @@
-// The products of FrodoKEM, on words (document 01, module 7). Those from the seed keep words mod 2^16, the others mod q.
+// The products of FrodoKEM, on words (docs/RULES.md, 4.7). Those from the seed keep words mod 2^16, the others mod q.
 use eights::low8;
 use eights::store8;
 use loops::add_row;

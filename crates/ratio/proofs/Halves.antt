@@ -38,7 +38,7 @@ module _ {p : Params} (valid : Valid p) where
       let twice : p .q ≡ 2 ^ (k .d - 1) * 2 = k .q-is ∙ ap (λ (z : ℕ). 2 ^ z) (sym one) ∙ pow-add 2 (k .d - 1) 1 in
       omega arith
 
--- the two numbers that document 01 has for h
+-- the two numbers that h is (docs/RULES.md, 4.4)
 pub record Halves (p : Params) : Type 0 where
   pub is : (half (p .q) (p .b) ≡ 2048) ⊎ (half (p .q) (p .b) ≡ 4096)
 

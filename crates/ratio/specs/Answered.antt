@@ -1,4 +1,4 @@
--- Document 01, module 11: what the margin answers, refused or done.
+-- docs/RULES.md, 4.11: what the margin answers, refused or done.
 -- Assumes nothing.
 use mathlib.Core.Path.{_≡_}
 use mathlib.Core.Bool.{Bool, false}

@@ -1,4 +1,4 @@
--- Document 01, module 11: a size over h as an f64, exact because h is a power of two.
+-- docs/RULES.md, 4.11: a size over h as an f64, exact because h is a power of two.
 -- Assumes nothing.
 use mathlib.Core.Path.{_≡_, refl}
 use mathlib.Core.Bool.{false}

@@ -1,4 +1,4 @@
-// The margin's answer (document 01, module 11): the largest size of some words of noise, that size over h as an f64, and a verdict.
+// The margin's answer (docs/RULES.md, 4.11): the largest size of some words of noise, that size over h as an f64, and a verdict.
 ghost use mathlib.Core.Path.{_≡_};
 ghost use Prim.Native.Nat.{_%_, _<_, max};
 ghost use lib.Dec.{ltb};

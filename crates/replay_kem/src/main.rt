@@ -1,4 +1,4 @@
-// Replays whole calls: the published answers, the oracle's on honest and on damaged input, margins by an independent computation, and document 01's refusals.
+// Replays whole calls: the published answers, the oracle's on honest and on damaged input, margins by an independent computation, and the refusals of docs/RULES.md, 5.6.
 // Prints each line of a list that differs, and how many agree. `replay_calls` has the calls.
 use replay::Tally;
 use replay_calls::COMMAND;
@@ -200,7 +200,7 @@ fn lines(list: &[u8], text: &[u8], command: u8) -> Tally {
     tally
 }
 
-// Document 01's numbers on each side of an edge, for key generation.
+// The numbers on each side of an edge for key generation (docs/RULES.md, 5.6).
 fn refusals() -> Tally {
     let t = Tally::new();
     let t = t.with(noted(
@@ -256,5 +256,5 @@ fn replay_kem() {
 fn main() {
     replay_published();
     replay_kem();
-    replay::report(b"document 01's refusals", refusals());
+    replay::report(b"the rules' refusals", refusals());
 }

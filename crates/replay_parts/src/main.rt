@@ -1,4 +1,4 @@
-// Replays the oracle's answers for sampling, message coding and packing, and document 01's numbers on each side of an edge. Prints how many agree.
+// Replays the oracle's answers for sampling, message coding and packing, and the numbers on each side of an edge (docs/RULES.md, 5). Prints how many agree.
 use replay::Tally;
 use sets::Chi;
 use sets::Chosen;
@@ -265,8 +265,8 @@ fn lines(text: &[u8], kind: Kind) -> Tally {
 fn report(text: &[u8]) {
     replay::report(b"every word sampled", lines(text, Kind::Sample));
     replay::report(b"every word decoded", lines(text, Kind::Decode));
-    replay::report(b"document 01's words sampled", lines(text, Kind::OneSample));
-    replay::report(b"document 01's words decoded", lines(text, Kind::OneDecode));
+    replay::report(b"the rules' words sampled", lines(text, Kind::OneSample));
+    replay::report(b"the rules' words decoded", lines(text, Kind::OneDecode));
     replay::report(b"eight words packed", lines(text, Kind::Pack));
     replay::report(b"eight words unpacked", lines(text, Kind::Unpack));
     replay::report(b"messages encoded", lines(text, Kind::Encode));

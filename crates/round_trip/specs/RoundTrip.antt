@@ -1,4 +1,4 @@
--- The third demand of the calls themselves. A key is generated, a message is sealed and opened, each call lent what those before it have left, whatever else it is lent:
+-- The third demand (docs/RULES.md, 1.3) of the calls themselves. A key is generated, a message is sealed and opened, each call lent what those before it have left, whatever else it is lent:
 -- what the message and the secret are then. proofs/RoundTrip.antt proves it.
 -- Assumes nothing.
 use mathlib.Core.Path.{_≡_}

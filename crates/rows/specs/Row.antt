@@ -1,4 +1,4 @@
--- Frodo.Gen with SHAKE128 (Algorithm 7.6 of the FrodoKEM standard proposal of 2023; Algorithm 8 of the specification of 2021); document 01, module 6.
+-- FrodoKEM standard proposal (2023), Frodo.Gen with SHAKE128; docs/RULES.md, 4.6.
 -- All that is said of A above is said through `row`.
 -- Assumes nothing.
 use mathlib.Core.List.{List, _∷_}

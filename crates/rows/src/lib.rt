@@ -1,4 +1,4 @@
-// Rows of A (document 01, module 6), and the mask by which words are taken mod q.
+// Rows of A (docs/RULES.md, 4.6), and the mask by which words are taken mod q.
 use sets::Params;
 use shake::Sponge;
 use words::mask_words;

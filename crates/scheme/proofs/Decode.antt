@@ -1,4 +1,4 @@
--- Decoding one group (`groupOf` of crate message), whatever was added to its word: g groups, 2h apart, in a circle of q words. Request Thirteen for one group,
+-- Decoding one group (`groupOf` of crate message), whatever was added to its word: g groups, 2h apart, in a circle of q words. The law of each group, for one,
 -- and the range in which the added noise does no harm.
 -- Assumes nothing.
 use mathlib.Core.Path.{_≡_, sym, ap, _∙_}
@@ -143,7 +143,7 @@ module _ {q b : ℕ} (k : Coding q b) where
   steps : q ≡ 2 ^ b * (2 * half q b)
   steps = sym (whole k) ∙ ap (λ (x : ℕ). 2 ^ b * x) (sym (twice k))
 
-  -- request Thirteen for one group: its word with e added decodes to the group and floor((e + h) / 2h), mod 2^b
+  -- the law of each group, for one: its word with e added decodes to the group and floor((e + h) / 2h), mod 2^b
   pub group-drifts : (m e w : ℕ) → Same q w (wordOf q b m + e) → groupOf q b w ≡ drifted q (half q b) (2 ^ b) m e
   unfolding groupOf wordOf rounded
   group-drifts m e w s =

@@ -1,5 +1,5 @@
--- The third demand (specs/Demand3.antt), proved once over every valid set: that the message comes back exactly where the noise is in range follows from request
--- Thirteen's law of groups. Then for every set number, through `chosen`.
+-- The third demand (specs/Demand3.antt), proved once over every valid set: that the message comes back exactly where the noise is in range follows from
+-- the law of each group (Groups.antt). Then for every set number, through `chosen`.
 -- Assumes nothing.
 use mathlib.Core.Path.{_≡_, sym, ap, _∙_, subst}
 use mathlib.Core.Logic.{_↔_}

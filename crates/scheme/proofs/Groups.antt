@@ -1,4 +1,4 @@
--- Request Thirteen: every recovered group is the sent one plus floor((e + h) / 2h), mod 2^b, where e is its own centred entry of the noise.
+-- The law of each group: every recovered group is the sent one plus floor((e + h) / 2h), mod 2^b, where e is its own centred entry of the noise.
 -- Assumes nothing.
 use mathlib.Core.Path.{_≡_, ap, _∙_}
 use mathlib.Core.List.{List, map}

@@ -107,6 +107,6 @@ module _ (p : Params) (valid : Valid p) (seed : List ℕ) where
         ∙ ap (drop (16 * p .n)) sk-rest
         ∙ drop-at (bytesOf (keyS p seed)) (pkhOf p (publicKey p seed)) (16 * p .n) length-S
 
-    -- request Six: the pkh that a generated key holds is the hash of the public key that it holds
+    -- a generated key passes: the pkh that a generated key holds is the hash of the public key that it holds
     pub key-passes : skPkh p (secretKey p seed) ≡ pkhOf p (skPk p (secretKey p seed))
     key-passes = sk-pkh ∙ ap (pkhOf p) (sym sk-pk)

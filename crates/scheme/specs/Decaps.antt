@@ -1,4 +1,4 @@
--- FrodoKEM.Decaps of the FrodoKEM standard proposal (2023); document 01, module 10: the message and the secret that any bytes of the right lengths open to.
+-- FrodoKEM standard proposal (2023), FrodoKEM.Decaps; docs/RULES.md, 4.10: the message and the secret that any bytes of the right lengths open to.
 -- The stored pkh is used as it stands.
 -- Assumes nothing.
 use mathlib.Core.Bool.{Bool, _&&_, cond}

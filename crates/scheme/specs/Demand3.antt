@@ -1,5 +1,5 @@
--- The third demand, and document 02's request Thirteen, as a statement. A seed's key seals a message with a salt, and the same key opens it again: what comes
--- back, and when. proofs/Demand3.antt proves it.
+-- The third demand (docs/RULES.md, 1.3) as a statement, with the law of each group from which it follows. A seed's key seals a message with a salt, and
+-- the same key opens it again: what comes back, and when. proofs/Demand3.antt proves it.
 -- Assumes nothing.
 use mathlib.Core.Path.{_≡_}
 use mathlib.Core.Logic.{_↔_}
@@ -30,7 +30,7 @@ abbrev pub recoveredSecret : (p : Params) (seed msg salt : List ℕ) → List �
 recoveredSecret p seed msg salt = decapsSecret p (secretKey p seed) (sealed p seed msg salt)
 
 pub record Demand3 (p : Params) (seed msg salt : List ℕ) : Type 0 where
-  -- request Thirteen: a recovered group is the sent one plus floor((e + h) / 2h), mod 2^b, where e is its own centred entry of the noise
+  -- the law of each group: a recovered group is the sent one plus floor((e + h) / 2h), mod 2^b, where e is its own centred entry of the noise
   pub groupwise : (i j : ℕ) → i < 8 → j < 8
       → getD (groupsOf (p .b) (recoveredMessage p seed msg salt)) (i * 8 + j) 0
       ≡ modulo

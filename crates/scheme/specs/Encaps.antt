@@ -1,4 +1,4 @@
--- FrodoKEM.Encaps of the FrodoKEM standard proposal (2023); document 01, module 9: what a message and a salt become under a public key. The parts take
+-- FrodoKEM standard proposal (2023), FrodoKEM.Encaps; docs/RULES.md, 4.9: what a message and a salt become under a public key. The parts take
 -- pkh as it is given, since decapsulation redoes them with the pkh that it has stored.
 -- Assumes nothing.
 use mathlib.Core.List.{List, _∷_, _++_}

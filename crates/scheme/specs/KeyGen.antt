@@ -1,4 +1,4 @@
--- FrodoKEM.KeyGen of the FrodoKEM standard proposal (2023); document 01, module 8: the keys of a seed, which is s, seedSE and z in a row.
+-- FrodoKEM standard proposal (2023), FrodoKEM.KeyGen; docs/RULES.md, 4.8: the keys of a seed, which is s, seedSE and z in a row.
 -- Assumes nothing.
 use mathlib.Core.List.{List, _∷_, _++_}
 use Prim.Native.Nat.{ℕ, _+_, _*_}

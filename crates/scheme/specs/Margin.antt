@@ -1,4 +1,4 @@
--- Document 01, module 11: the margin of a seed, a message and a salt, but for its ratio, which stands with the code that divides.
+-- docs/RULES.md, 4.11: the margin of a seed, a message and a salt, but for its ratio, which stands with the code that divides.
 -- Assumes nothing.
 use mathlib.Core.Bool.{Bool, false}
 use mathlib.Core.List.{List}

@@ -1,5 +1,5 @@
--- The noise that decapsulation meets, and the range in which it does no harm: document 01, module 11 and the third demand, over the matrices of
--- FrodoKEM.KeyGen and FrodoKEM.Encaps of the FrodoKEM standard proposal (2023).
+-- The noise that decapsulation meets, and the range in which it does no harm: docs/RULES.md, 1.3 and 4.11, over the matrices of
+-- the FrodoKEM standard proposal (2023), FrodoKEM.KeyGen and FrodoKEM.Encaps.
 -- Assumes nothing.
 use mathlib.Core.List.{List}
 use Prim.Native.Nat.{ℕ, _<_}

@@ -1,4 +1,4 @@
--- What FrodoKEM.KeyGen, FrodoKEM.Encaps and FrodoKEM.Decaps of the FrodoKEM standard proposal (2023) share; document 01, modules 8 to 10: the set's hash and its noise.
+-- FrodoKEM standard proposal (2023), what FrodoKEM.KeyGen, FrodoKEM.Encaps and FrodoKEM.Decaps share; docs/RULES.md, 4.8 to 4.10: the set's hash and its noise.
 -- Assumes nothing.
 use mathlib.Core.List.{List, map}
 use Prim.Native.Nat.{ℕ}

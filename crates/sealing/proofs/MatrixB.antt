@@ -1,4 +1,4 @@
--- What `masks` leaves (document 01, module 9), from what the draw and the product leave.
+-- What `masks` leaves (docs/RULES.md, 4.9), from what the draw and the product leave.
 -- Assumes nothing.
 use mathlib.Core.Path.{_≡_, ap, ap₂, _∙_, subst}
 use mathlib.Core.List.{List, _∷_, _++_}

@@ -1,4 +1,4 @@
--- What `values` leaves (document 01, module 9), from what unpacking, the product, the coding and the sum leave.
+-- What `values` leaves (docs/RULES.md, 4.9), from what unpacking, the product, the coding and the sum leave.
 -- Assumes nothing.
 use mathlib.Core.Path.{_≡_, ap, _∙_}
 use mathlib.Core.List.{List, _++_}

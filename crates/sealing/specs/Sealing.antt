@@ -1,4 +1,4 @@
--- The two matrices of a ciphertext (FrodoKEM.Encaps of the FrodoKEM standard proposal, 2023; document 01, modules 9 and 10), over what they are made of: the noise,
+-- The two matrices of a ciphertext (FrodoKEM standard proposal (2023), FrodoKEM.Encaps; docs/RULES.md, 4.9 and 4.10), over what they are made of: the noise,
 -- the parts of a public key and the message. Encapsulation makes them, and decapsulation makes them again.
 -- Assumes nothing.
 use mathlib.Core.Path.{_≡_}

@@ -1,4 +1,4 @@
-// The two matrices of a ciphertext (document 01, modules 9 and 10): encapsulation makes them, and decapsulation makes them again.
+// The two matrices of a ciphertext (docs/RULES.md, 4.9 and 4.10): encapsulation makes them, and decapsulation makes them again.
 use codec::unpack;
 use hashes::draw;
 use message::encode_message;

@@ -1,4 +1,4 @@
--- FIPS 202, section 4: bytes absorbed one at a time are absorbed block by block. Assumes nothing.
+-- FIPS 202 (2015), the sponge construction, absorbing: bytes absorbed one at a time are absorbed block by block. Assumes nothing.
 use mathlib.Core.Path.{_≡_, refl, sym, ap, ap₂, _∙_, subst}
 use mathlib.Core.List.{List, [], _∷_, _++_}
 use Prim.Native.Nat.{ℕ, zero, suc, _+_, _-_, _*_, _%_, _≤_, _<_}

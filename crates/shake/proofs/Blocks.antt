@@ -1,4 +1,4 @@
--- FIPS 202, section 4, steps 7 to 10: bytes squeezed one at a time are those of the blocks. Assumes nothing.
+-- FIPS 202 (2015), the sponge construction, squeezing: bytes squeezed one at a time are those of the blocks. Assumes nothing.
 use mathlib.Core.Path.{_≡_, refl, sym, ap, ap₂, _∙_}
 use mathlib.Core.List.{List, _++_}
 use Prim.Native.Nat.{ℕ, zero, suc, _+_, _*_, _/_, _%_, _≤_, _<_}

@@ -1,4 +1,4 @@
--- FIPS 202, section 4, step 6: a block added to the lanes at once is its bytes added one after the other. Assumes nothing.
+-- FIPS 202 (2015), the sponge construction, absorbing: a block added to the lanes at once is its bytes added one after the other. Assumes nothing.
 use mathlib.Core.Path.{_≡_, refl, sym, ap, ap₂, _∙_, subst}
 use mathlib.Core.Bool.{Bool, true, false}
 use mathlib.Core.List.{List, [], _∷_, _++_, append-nil}

@@ -1,4 +1,4 @@
--- The laws of the sponge. Callers cite Uses and Length; the others prove that the sponge is FIPS 202's.
+-- The laws of the sponge. Callers cite Uses and Length; the others prove that the sponge is that of specs/Shake.antt.
 pub mod Length
 pub mod Turn
 pub mod Lanes

@@ -1,4 +1,4 @@
--- FIPS 202, sections 5.1, 6.2 and B.2: the two bytes that `finish` adds are the suffix and the padding. Assumes nothing.
+-- FIPS 202 (2015), pad10*1 and SHAKE's suffix, in bytes: the two bytes that `finish` adds are the suffix and the padding. Assumes nothing.
 use mathlib.Core.Path.{_≡_, refl, sym, ap, ap₂, _∙_, subst}
 use mathlib.Core.List.{List, [], _∷_, _++_}
 use Prim.Native.Nat.{ℕ, zero, suc, _+_, _-_, _*_, _/_, _%_, _^_, _≤_, _<_}
@@ -95,7 +95,7 @@ pad p h e = by (p .rate - p .at) (omega (arith, h .within)) (omega (arith, h .wi
         ∙ turn-full (made (xorBytes (p .lanes) (p .at) (padding (suc q))) (p .at + length (padding (suc q))) (p .rate)) n
         ∙ ap (λ (t : List ℕ). made (keccakF t) 0 (p .rate)) (pad-bytes (p .lanes) (p .at) (p .rate) q e (h .small) w)
 
--- ---- absorbed and finished, the lanes are those of section 4's step 6
+-- ---- absorbed and finished, the lanes are those of the sponge construction's absorbing step
 
 module _ (r : ℕ) (some : 0 < r) (small : r ≤ 200) (m : List ℕ) (hm : Below 256 m) where
   padded-length : length (padded r m) ≡ (length m / r + 1) * r

@@ -46,7 +46,7 @@ more {r} {xs} ys a b f = record {
 pub ready : {r : ℕ} {xs : List ℕ} {p : Sponge} → Absorbed r xs p → Ready p
 ready {r} {xs} a = subst (λ (q : Sponge). Ready q) (sym (a .is)) (ready-bytes (empty r) xs (record { small = a .rate .1; within = a .rate .0 }))
 
--- `finish` leaves the lanes of FIPS 202 at the start of a block
+-- `finish` leaves the lanes of specs/Shake.antt at the start of a block
 ended : {r : ℕ} {xs : List ℕ} {p q : Sponge} → Absorbed r xs p → q ≡ finished p → q ≡ made (absorbBlocks r (length (padded r xs) / r) (replicate 25 0) (padded r xs)) 0 r
 ended {r} {xs} a f = f ∙ ap finished (a .is) ∙ absorbed r (a .rate .0) (a .rate .1) xs (a .bytes)
 

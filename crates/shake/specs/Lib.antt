@@ -1,3 +1,3 @@
--- FIPS 202, sections 4, 6.2 and B.2.
+-- FIPS 202 (2015), the sponge construction and SHAKE.
 pub mod Shake
 pub mod Sponge

@@ -1,4 +1,4 @@
--- FIPS 202: the sponge (section 4, Algorithm 8), SHAKE (section 6.2) and its padding on bytes (B.2), for a rate of r bytes:
+-- FIPS 202 (2015), the sponge construction, SHAKE128 and SHAKE256, and their padding in bytes; docs/RULES.md, 4.1. For a rate of r bytes:
 -- SHAKE128 has the rate 168, SHAKE256 the rate 136.
 -- Assumes nothing.
 use mathlib.Core.List.{List, [], _∷_, _++_}
@@ -9,7 +9,7 @@ use Rattle.lists.specs.Lists.{tab}
 use Rattle.bits.specs.Digits.{number}
 use Rattle.keccak.specs.Keccak.{keccakF}
 
--- section 4, step 6: S xor (P, and zeros up to 200 bytes), eight bytes a lane, the lowest first
+-- absorbing, the sum of the state and a block: S xor (P, and zeros up to 200 bytes), eight bytes a lane, the lowest first
 unfoldable pub addBlock : List ℕ → List ℕ → List ℕ
 addBlock s p = tab 25 (λ i. bitXor (getD s i 0) (number 256 (take 8 (drop (8 * i) p))))
 
@@ -18,7 +18,7 @@ unfoldable pub absorbBlocks : (r n : ℕ) → List ℕ → List ℕ → List ℕ
 absorbBlocks r zero s p = s
 absorbBlocks r (suc n) s p = absorbBlocks r n (keccakF (addBlock s (take r p))) (drop r p)
 
--- the suffix 1111 of section 6.2 and pad10*1 of section 5.1, in q bytes (B.2)
+-- SHAKE's suffix 1111 and pad10*1, in q bytes
 unfoldable pub padding : ℕ → List ℕ
 padding zero = []
 padding (suc zero) = 0x9f ∷ []
@@ -31,7 +31,7 @@ padded r m = m ++ padding (r - length m % r)
 abbrev pub byteAt : List ℕ → ℕ → ℕ
 byteAt s k = getD s (k / 8) 0 / 2 ^ (8 * (k % 8)) % 256
 
--- section 4, steps 7 to 10: n blocks of r bytes are given out, with the permutation between them
+-- squeezing: n blocks of r bytes are given out, with the permutation between them
 unfoldable pub squeezeBlocks : (r n : ℕ) → List ℕ → List ℕ
 squeezeBlocks r zero s = []
 squeezeBlocks r (suc n) s = tab r (byteAt s) ++ squeezeBlocks r n (keccakF s)

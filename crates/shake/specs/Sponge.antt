@@ -1,4 +1,4 @@
--- The sponge a byte at a time, as the code runs it. An inside matter: proofs/Uses.antt proves it equal to Shake.antt's definition of FIPS 202, block by block.
+-- The sponge a byte at a time, as the code runs it. An inside matter: proofs/Uses.antt proves it equal to the definition in Shake.antt, which goes block by block.
 -- Assumes nothing.
 use mathlib.Core.Path.{_≡_}
 use mathlib.Core.Bool.{Bool, true, false}

@@ -1,4 +1,4 @@
-// FIPS 202, sections 4 and 6.2: SHAKE as a sponge over Keccak, at any rate of up to 200 bytes (SHAKE128 has 168, SHAKE256 has 136).
+// FIPS 202 (2015), the sponge construction and SHAKE: a sponge over Keccak, at any rate of up to 200 bytes (SHAKE128 has 168, SHAKE256 has 136).
 // A sponge goes by value: new, absorb as often as there are parts, finish, squeeze as often as bytes are asked for.
 ghost use mathlib.Core.Path.{_≡_};
 ghost use Prim.Native.Nat.{min, _+_, _*_, _/_, _%_, _^_, _≤_, _<_};

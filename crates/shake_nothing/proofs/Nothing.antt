@@ -1,4 +1,4 @@
--- FIPS 202, section 6.2: SHAKE128 of nothing, computed by the checker from the definitions alone.
+-- FIPS 202 (2015), SHAKE128: that of nothing, computed by the checker from the definitions alone.
 -- The expected bytes are those of Python's hashlib.shake_128(b"").digest(32).
 -- Assumes nothing.
 use mathlib.Core.Path.{_≡_, refl}

@@ -1,4 +1,4 @@
--- What is squeezed out of a sponge that has taken three slices in a row is FIPS 202's SHAKE of the three. Assumes nothing.
+-- What is squeezed out of a sponge that has taken three slices in a row is SHAKE of the three (crates/shake/specs/Shake.antt). Assumes nothing.
 use mathlib.Core.Path.{_≡_, refl, ap, _∙_}
 use mathlib.Core.List.{List, [], _++_, append-assoc, append-nil}
 use Prim.Native.Nat.{ℕ}

@@ -1,4 +1,4 @@
--- The sponge that has taken three lists in a row and is finished, as the code runs it: what is squeezed out of it is crates/shake's FIPS 202 of the three in a row.
+-- The sponge that has taken three lists in a row and is finished, as the code runs it: what is squeezed out of it is SHAKE of the three in a row (crates/shake/specs/Shake.antt).
 -- Assumes nothing.
 use mathlib.Core.List.{List}
 use Prim.Native.Nat.{ℕ}

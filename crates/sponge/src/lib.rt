@@ -1,4 +1,4 @@
-// The sponge lent by &mut and changed in place, and SHAKE of one to three slices in a row through it (document 01, module 1).
+// The sponge lent by &mut and changed in place, and SHAKE of one to three slices in a row through it (docs/RULES.md, 4.1 and 7.8).
 // The thin functions over &mut sponge call those of crates/shake that take it by value.
 ghost use mathlib.Core.Path.{_≡_};
 ghost use mathlib.Core.List.{_++_};

@@ -1,4 +1,4 @@
--- The mask of the low bits of a word (document 01, module 7: products masked by q - 1).
+-- The mask of the low bits of a word (docs/RULES.md, 4.7: products masked by q - 1).
 -- Assumes nothing.
 use mathlib.Core.Path.{_≡_}
 use Prim.Native.Nat.{ℕ, _-_, _^_, _≤_}

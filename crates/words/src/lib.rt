@@ -1,4 +1,4 @@
-// Word arithmetic (document 01, module 2), and what moves words and bytes: copies, zeros, remainders mod q, little-endian words.
+// Word arithmetic (docs/RULES.md, 4.2), and what moves words and bytes: copies, zeros, remainders mod q, little-endian words.
 ghost use mathlib.Core.Path.{_≡_};
 ghost use Prim.Native.Nat.{_+_, _*_, _/_, _%_, _≤_};
 ghost use lib.ListN.{length, replicate};

@@ -61,7 +61,7 @@ macro_rules! set {
         impl $name {
             /// The set's number.
             pub const SET: u32 = $number;
-            /// The set's name in the standard proposal.
+            /// The set's name in the FrodoKEM standard proposal (2023).
             pub const NAME: &'static str = $title;
             /// Rows and columns of A.
             pub const N: usize = $n;

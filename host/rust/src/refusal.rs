@@ -1,4 +1,4 @@
-//! Why a call was turned away, by the numbers of the paper.
+//! Why a call was turned away, by the numbers of the paper (docs/RULES.md, 3.1).
 use core::fmt;
 
 /// Why a call was turned away. The call has then changed nothing that it was lent.

@@ -1,4 +1,4 @@
--- `codec15::eight` meets its contract: each formula is a byte of the document's bit string.
+-- `codec15::eight` meets its contract: each formula is a byte of Frodo.Pack's bit string.
 -- Assumes nothing.
 use borrow.Author.Needs.{needs}
 use Rattle.codec15.proofs.Straight.{pack-eight}

@@ -1,4 +1,4 @@
--- `codec15::fifteen` meets its contract: each formula is a word of the document's bit string.
+-- `codec15::fifteen` meets its contract: each formula is a word of Frodo.Pack's bit string.
 -- Assumes nothing.
 use borrow.Author.Needs.{needs}
 use native.Mathlib.Omega.{arith}

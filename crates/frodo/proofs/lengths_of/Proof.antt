@@ -1,4 +1,4 @@
--- `lengths_of` answers document 01's table, and zeros for a number that is no set.
+-- `lengths_of` answers the table of docs/RULES.md, 2.1, and zeros for a number that is no set.
 -- Assumes nothing.
 use mathlib.Core.Path.{_≡_, sym, ap, _∙_}
 use mathlib.Core.Bool.{Bool, true, false, cond}

@@ -1,4 +1,4 @@
--- FIPS 202, section 3.2.4: `chi` is chi, row by row as `chi_row` gives them.
+-- FIPS 202 (2015), chi: `chi` is chi, row by row as `chi_row` gives them.
 -- Assumes nothing.
 use mathlib.Core.List.{List, _++_}
 use Prim.Native.Nat.{ℕ}

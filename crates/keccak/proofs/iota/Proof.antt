@@ -1,4 +1,4 @@
--- FIPS 202, section 3.2.5: `iota` adds the constant that it is given.
+-- FIPS 202 (2015), iota: `iota` adds the constant that it is given.
 -- Assumes nothing.
 use mathlib.Core.Path.{refl}
 use borrow.Author.Needs.{needs}

@@ -1,4 +1,4 @@
--- FIPS 202, section 3.3: `keccak_f` is KECCAK-p[1600, 24]. After i turns of the loop the state has gone through i rounds.
+-- FIPS 202 (2015), KECCAK-p[1600, 24]: `keccak_f` is that. After i turns of the loop the state has gone through i rounds.
 -- Assumes nothing.
 use mathlib.Core.Path.{_≡_, refl, sym, ap, _∙_}
 use mathlib.Core.List.{List}

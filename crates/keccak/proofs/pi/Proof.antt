@@ -1,4 +1,4 @@
--- FIPS 202, section 3.2.3: `pi` is pi, by computation.
+-- FIPS 202 (2015), pi: `pi` is pi, by computation.
 -- Assumes nothing.
 use mathlib.Core.Path.{refl}
 use borrow.Author.Needs.{needs}

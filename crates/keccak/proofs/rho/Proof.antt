@@ -1,4 +1,4 @@
--- FIPS 202, section 3.2.2: `rho` is rho. Lane (0, 0), which the code leaves alone, is rotated by 0; the other 24 are what `rotl` gives at the offsets.
+-- FIPS 202 (2015), rho: `rho` is rho. Lane (0, 0), which the code leaves alone, is rotated by 0; the other 24 are what `rotl` gives at the offsets.
 -- Assumes nothing.
 use mathlib.Core.Path.{refl, sym, ap, _∙_}
 use mathlib.Core.List.{List}

@@ -1,4 +1,4 @@
--- FIPS 202, section 3.2.2: `rotl` rotates a lane.
+-- FIPS 202 (2015), rho: `rotl` rotates a lane.
 -- Assumes nothing.
 use borrow.Author.Needs.{needs}
 use native.Mathlib.Omega.{arith}

@@ -1,4 +1,4 @@
--- FIPS 202, section 3.3: `round` is the five steps in order.
+-- FIPS 202 (2015), KECCAK-p's round: `round` is the five steps in order.
 -- Assumes nothing.
 use mathlib.Core.Path.{ap, _∙_}
 use borrow.Author.Needs.{needs}

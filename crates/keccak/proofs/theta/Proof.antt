@@ -1,4 +1,4 @@
--- FIPS 202, section 3.2.1: `theta` is theta, from the column parities that `columns` gives and the rotations that `rotl` gives.
+-- FIPS 202 (2015), theta: `theta` is theta, from the column parities that `columns` gives and the rotations that `rotl` gives.
 -- Assumes nothing.
 use mathlib.Core.Path.{ap, _∙_}
 use mathlib.Core.List.{List, [], _∷_}

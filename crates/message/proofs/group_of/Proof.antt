@@ -1,4 +1,4 @@
--- `message::group_of` meets its contract: the masks, the multiple and the shift are document 01's floor((x mod q + h) / 2h) mod 2^b.
+-- `message::group_of` meets its contract: the masks, the multiple and the shift are floor((x mod q + h) / 2h) mod 2^b (docs/RULES.md, 4.4).
 -- Assumes nothing.
 use native.Mathlib.Omega.{arith}
 use Prim.Native.Nat.{ℕ, _+_, _-_, _*_, _/_, _%_, _^_, _≤_, _<_}

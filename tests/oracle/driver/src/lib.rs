@@ -1,4 +1,4 @@
-//! The crate's types by document 01's set numbers, and hex text for the line protocol.
+//! The crate's types by the set numbers of docs/RULES.md, 2.1, and hex text for the line protocol.
 pub use frodo_kem_rs::hazmat::*;
 
 #[cfg(frodo_archive)]

@@ -1,6 +1,6 @@
-//! SHAKE for the sieve (FIPS 202). The proved library shows no SHAKE to its callers; this one decides nothing: what the sieve lets through is sealed again by the library.
+//! SHAKE for the sieve (FIPS 202 (2015), SHAKE128 and SHAKE256). The proved library shows no SHAKE to its callers; this one decides nothing: what the sieve lets through is sealed again by the library.
 
-/// The round constants, from Algorithm 5's register.
+/// The round constants, from the register of rc(t).
 const ROUNDS: [u64; 24] = {
     let (mut constants, mut register, mut round) = ([0; 24], 1_u8, 0);
     while round < 24 {
@@ -17,7 +17,7 @@ const ROUNDS: [u64; 24] = {
     constants
 };
 
-/// Where rho and pi take each lane, and how far they turn it: Algorithms 2 and 3 as one walk.
+/// Where rho and pi take each lane, and how far they turn it, as one walk.
 const WALK: [(usize, u32); 24] = {
     let (mut walk, mut x, mut y, mut t) = ([(0, 0); 24], 1, 0, 0);
     while t < 24 {

@@ -10,7 +10,7 @@ use crate::sets::Set;
 const COLUMNS: usize = 8;
 const FIT: usize = 4;
 
-/// Document 01's tables of the noise, the last entry left out.
+/// The tables of the noise (docs/RULES.md, 4.5), the last entry left out.
 const TABLES: [&[u16]; 3] = [
     &[4643, 13363, 20579, 25843, 29227, 31145, 32103, 32525, 32689, 32745, 32762, 32766],
     &[5638, 15915, 23689, 28571, 31116, 32217, 32613, 32731, 32760, 32766],
