@@ -9,12 +9,13 @@
 # make stack            the stack that each call takes
 # make signal           a process with a broken heap seals its report in a signal handler; another process opens it
 # make hostile          guard pages, wrong lengths and sets (HOSTILE="20000 6" makes fewer calls); make unset runs over unset memory
+# make replay           the lists that the proved programs replay, through the library as it is compiled for this machine
 # make side-by-side     every call beside frodo-kem-rs, byte for byte (FRODO_KEM_RS names its folder, SEEDS=20 makes it short)
 # make other-processor  the library of the other processor, and its C tests under an emulator (no part of the gate)
 # make bench            speed beside other code, as ratios
 # make oracle           builds frodo-kem-rs from its own source (FRODO_KEM_RS names its folder), for the lists in tests/lists
 # make lists            makes the lists of answers again: wants the oracle
-.PHONY: test layout wanted prove lib host frodo demo cli c-tests seal stack signal hostile unset side-by-side other-processor bench oracle lists clean
+.PHONY: test layout wanted prove lib host frodo demo cli c-tests seal stack signal hostile unset replay side-by-side other-processor bench oracle lists clean
 .NOTPARALLEL:
 
 SHELL = /bin/bash
@@ -41,12 +42,14 @@ CC := $(call about,prefix)gcc
 RUN := $(call about,qemu) -L $(call about,sysroot)
 endif
 
-test: wanted layout prove host cli c-tests side-by-side
+test: wanted layout prove host cli c-tests replay side-by-side
 	@echo "the library's tests have passed, on $(call about,name); the prover had said:"
 	@tail -n 1 build/ci.log
 
+# Files in their layout, and documents that name what is there.
 layout:
 	rt fmt --check
+	tests/docs/check
 
 # What a build and its tests lean on, before the first proof.
 wanted:
@@ -98,6 +101,12 @@ signal: $(BUILD)/signal/signal
 
 hostile: $(BUILD)/hostile/hostile
 	$(RUN) $(BUILD)/hostile/hostile $(HOSTILE)
+
+# The lists of the proved program replay_kem, through the library as it is compiled here.
+replay: $(DIST)/libfrodo_c.a
+	mkdir -p build/replay
+	$(CC) -shared -nostdlib -Wl,--whole-archive $< -Wl,--no-whole-archive -o build/replay/libfrodo_c.so
+	tests/replay/run build/replay/libfrodo_c.so
 
 unset: dist/libfrodo_c.a
 	tests/hostile/unset
