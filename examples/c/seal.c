@@ -1,4 +1,5 @@
 /* Generate, seal, open, from C. Build: cc -I dist examples/c/seal.c dist/libfrodo_c.a -o seal
+ * Where the library is installed: cc examples/c/seal.c $(pkg-config --cflags --libs frodo_c) -o seal
  *
  * All memory is static: nothing here or in the library touches the heap. The seed, the message and the salt come from the system; in a crash handler the
  * public key is compiled in, and message and salt are drawn before anything has gone wrong. */
@@ -8,7 +9,17 @@
 #include <string.h>
 #include <sys/random.h>
 
-enum { SET = 3, SEED = 112, PUBLIC = 21520, SECRET = 43088, CIPHERTEXT = 21696, KEY = 32, SALT = 64, NOISE = 21568, WORK = 23104 };
+enum {
+    SET = FRODO1344SHAKE_SET,
+    SEED = FRODO1344SHAKE_SEED_LENGTH,
+    PUBLIC = FRODO1344SHAKE_PUBLIC_KEY_LENGTH,
+    SECRET = FRODO1344SHAKE_SECRET_KEY_LENGTH,
+    CIPHERTEXT = FRODO1344SHAKE_CIPHERTEXT_LENGTH,
+    KEY = FRODO1344SHAKE_SHARED_SECRET_LENGTH, /* the message's length, too */
+    SALT = FRODO1344SHAKE_SALT_LENGTH,
+    NOISE = FRODO1344SHAKE_NOISE_WORDS,
+    WORK = FRODO1344SHAKE_WORK_WORDS
+};
 
 static uint8_t seed[SEED], public_key[PUBLIC], secret_key[SECRET], sealed[CIPHERTEXT];
 static uint8_t message[KEY], salt[SALT], key[KEY], opened[KEY], recovered[KEY];
@@ -34,7 +45,7 @@ int main(void)
     }
 
     /* how near to spoiling the noise of these three comes; asked for first, since key generation zeroes the seed */
-    struct frodo_margin margin = frodo_margin(SET, seed, SEED, message, KEY, salt, SALT, noise, NOISE, work, WORK);
+    struct frodo_margin_answer margin = frodo_margin(SET, seed, SEED, message, KEY, salt, SALT, noise, NOISE, work, WORK);
     if (refused("frodo_margin", margin.refusal))
         return 1;
 

@@ -93,7 +93,7 @@ static uint32_t make(const struct trial *t) {
     case DECAPSULATE_SECRET:
         return frodo_decapsulate_shared_secret(t->set, BYTES(SECRET_KEY), BYTES(CIPHERTEXT), BYTES(SHARED_SECRET), WORDS(NOISE), WORDS(WORK));
     default: {
-        struct frodo_margin m = frodo_margin(t->set, BYTES(SEED), BYTES(MESSAGE), BYTES(SALT), WORDS(NOISE), WORDS(WORK));
+        struct frodo_margin_answer m = frodo_margin(t->set, BYTES(SEED), BYTES(MESSAGE), BYTES(SALT), WORDS(NOISE), WORDS(WORK));
         if (m.refusal != 0 && (m.size != 0 || m.ratio != 0.0 || m.kept != 0)) fail(t, "a refused margin has a size, a ratio or a verdict");
         if (m.refusal == 0) {
             double h = t->set == 3 ? 2048.0 : 4096.0;
@@ -220,7 +220,7 @@ static void nulls(void) {
 static void lengths(void) {
     for (unsigned long k = 0; k < 100000; k++) {
         uint32_t set = k < 300 ? (uint32_t)k : any_set();
-        struct frodo_lengths l = frodo_lengths(set);
+        struct frodo_set_lengths l = frodo_lengths(set);
         const uint32_t given[BUFFERS] = { l.seed, l.public_key, l.secret_key, l.ciphertext, l.message, l.salt, l.shared_secret, l.noise_words, l.work_words };
         for (int b = 0; b < BUFFERS; b++)
             if (given[b] != (set >= 1 && set <= 3 ? paper_length[set - 1][b] : 0)) {

@@ -123,7 +123,7 @@ static void fault(int number) {
 struct made {
     void *function;
     uint64_t arguments[15], n;
-    union { struct frodo_margin margin; struct frodo_lengths lengths; } by_pointer;
+    union { struct frodo_margin_answer margin; struct frodo_set_lengths lengths; } by_pointer;
 };
 
 static void lend(struct made *m, void *from, size_t elements) {
