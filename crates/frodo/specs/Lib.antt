@@ -6,3 +6,4 @@ pub mod Decaps
 pub mod Margin
 pub mod SetLengths
 pub mod One
+pub mod DoneWhen
