@@ -1,3 +1,2 @@
--- What a done call leaves, and the third demand of the calls.
-pub mod Done
+-- The third demand of the calls.
 pub mod RoundTrip
