@@ -1,31 +1,16 @@
--- Each call is done exactly where its number is a set and its buffers have the set's lengths, and what it then leaves; a done margin's ratio is exact (specs/DoneWhen.antt).
+-- Each call is done exactly where its number is a set and its buffers have the set's lengths (specs/DoneWhen.antt); and what it then leaves.
 -- Assumes nothing.
-use mathlib.Core.Path.{_≡_, refl, sym, ap, _∙_, subst}
-use mathlib.Core.Bool.{false}
-use Prim.Native.Nat.{ℕ, _^_, _<_, _≤_}
-use native.Mathlib.Omega.{arith}
-use lib.Pow.{pow-mono}
-use lib.Ieee.{Float}
-use lib.Ieee.Exact.{HasValue}
+use mathlib.Core.Path.{_≡_, refl}
 use Rattle.sets.specs.Sets.{paramsOf}
-use Rattle.sets.specs.declared.Params.{Params}
 use Rattle.sets.specs.declared.Answer.the-variants.{Done}
-use Rattle.sets.proofs.Facts.{valid}
 use Rattle.lengths.proofs.Shown.{keypair-shown, encaps-shown, decaps-shown, decaps-secret-shown, margin-shown}
 use Rattle.lengths.proofs.Fits.{keypair-fits, encaps-fits, decaps-fits, decaps-secret-fits, margin-fits}
-use Rattle.message.specs.Message.{half}
-use Rattle.scheme.specs.Margin.{marginSize}
-use Rattle.scheme.proofs.Parts.{coding}
-use Rattle.scheme.proofs.Margin.{margin-size-below}
-use Rattle.ratio.specs.Ratio.{ratioOf}
-use Rattle.ratio.proofs.Quotient.{divided}
-use Rattle.ratio.proofs.Halves.{half-power}
 use Rattle.frodo.specs.Keypair.{KeypairLent, KeypairLeft, keypairTests, keypairDone, keypairRefused, keypairLeaves}
 use Rattle.frodo.specs.Encaps.{EncapsLent, EncapsLeft, encapsTests, encapsDone, encapsRefused, encapsLeaves}
 use Rattle.frodo.specs.Decaps.{DecapsLent, DecapsLeft, decapsTests, decapsDone, decapsRefused, decapsLeaves}
 use Rattle.frodo.specs.Decaps.{DecapsSecretLent, DecapsSecretLeft, decapsSecretTests, decapsSecretDone, decapsSecretRefused, decapsSecretLeaves}
 use Rattle.frodo.specs.Margin.{MarginLent, MarginLeft, marginTests, marginDone, marginRefused, marginLeaves}
-use Rattle.frodo.specs.DoneWhen.{KeypairDoneWhen, EncapsDoneWhen, DecapsDoneWhen, DecapsSecretDoneWhen, MarginDoneWhen, MarginExact}
+use Rattle.frodo.specs.DoneWhen.{KeypairDoneWhen, EncapsDoneWhen, DecapsDoneWhen, DecapsSecretDoneWhen, MarginDoneWhen}
 use Rattle.frodo.proofs.Told.{Called, done-left, done-when}
 
 -- ---- key generation
@@ -92,21 +77,3 @@ margin-done-when i = done-when (margin i) (λ p v e. margin-shown p v _ _ _ _ _ 
 pub margin-done-left : (i : MarginLent) → marginLeaves i .margin .answer ≡ Done → marginLeaves i ≡ marginDone i (paramsOf (i .set))
 unfolding marginLeaves
 margin-done-left i = done-left (margin i)
-
--- ---- the margin's ratio
-
--- a set's q is at most 2^16, so the size is a number that an f64 holds
-margin-size-small : (i : MarginLent) → marginSize (paramsOf (i .set)) (i .seed) (i .msg) (i .salt) < 2 ^ 32
-margin-size-small i =
-    let p = paramsOf (i .set) in
-    let k = coding p (valid (i .set)) in
-    let high : p .q ≤ 2 ^ 16 = subst (λ (q : ℕ). q ≤ 2 ^ 16) (sym (k .q-is)) (pow-mono {j = 16} (k .d-high)) in
-    omega (arith, margin-size-below p (i .seed) (i .msg) (i .salt) (valid (i .set)))
-
-pub margin-exact : MarginExact
-margin-exact i e =
-    let p = paramsOf (i .set) in
-    let h = half (p .q) (p .b) in
-    let d = divided (marginSize p (i .seed) (i .msg) (i .salt)) h (margin-size-small i) (half-power (valid (i .set))) in
-    subst (λ (l : MarginLeft). HasValue (l .margin .ratio) false (l .margin .size) h) (sym (margin-done-left i e))
-    (subst (λ (r : Float). HasValue r false (marginSize p (i .seed) (i .msg) (i .salt)) h) (d .is) (d .exact))

@@ -3,3 +3,4 @@ pub mod Outcomes
 pub mod One
 pub mod Told
 pub mod DoneWhen
+pub mod Exact

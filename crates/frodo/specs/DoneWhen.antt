@@ -1,24 +1,21 @@
--- When a call is done (docs/RULES.md, section 3): exactly where its number is a set and each of its buffers has the set's length; and what a done margin's ratio is worth (section 4.11).
--- proofs/DoneWhen.antt proves it.
+-- When a call is done (docs/RULES.md, section 3): exactly where its number is a set and each of its buffers has the set's length. proofs/DoneWhen.antt proves it.
 -- Assumes nothing.
 use mathlib.Core.Path.{_≡_}
 use mathlib.Core.Logic.{_↔_}
-use mathlib.Core.Bool.{true, false}
+use mathlib.Core.Bool.{true}
 use Prim.Native.Nat.{ℕ}
 use lib.ListN.{length}
-use lib.Ieee.Exact.{HasValue}
 use Rattle.sets.specs.Sets.{known, paramsOf}
 use Rattle.sets.specs.declared.Params.{Params}
 use Rattle.sets.specs.declared.Answer.{Answer}
 use Rattle.sets.specs.declared.Answer.the-variants.{Done}
 use Rattle.lengths.specs.Sized.{KeypairSized, EncapsSized, DecapsSized, DecapsSecretSized, MarginSized}
-use Rattle.message.specs.Message.{half}
 use Rattle.frodo.specs.Keypair.{KeypairLent, keypairLeaves}
 use Rattle.frodo.specs.Encaps.{EncapsLent, encapsLeaves}
 use Rattle.frodo.specs.Decaps.{DecapsLent, decapsLeaves, DecapsSecretLent, decapsSecretLeaves}
 use Rattle.frodo.specs.Margin.{MarginLent, marginLeaves}
 
--- the number is a set, and the lengths are that set's
+-- the number is a set, and the lengths are that set's. (The record of the lengths says `Valid` of the set besides: every set is.)
 pub record Fits (set : ℕ) (Sized : Params → Type 0) : Type 0 where
   pub a-set : known set ≡ true
   pub sized : Sized (paramsOf set)
@@ -56,8 +53,3 @@ DecapsSecretDoneWhen = DoneWhen (λ i. decapsSecretLeaves i .answer) DecapsSecre
 
 abbrev pub MarginDoneWhen : Type 0
 MarginDoneWhen = DoneWhen (λ i. marginLeaves i .margin .answer) MarginFits
-
--- the ratio of a done margin is its size over h: nothing was rounded
-abbrev pub MarginExact : Type 0
-MarginExact = (i : MarginLent) → marginLeaves i .margin .answer ≡ Done
-    → HasValue (marginLeaves i .margin .ratio) false (marginLeaves i .margin .size) (half (paramsOf (i .set) .q) (paramsOf (i .set) .b))

@@ -7,3 +7,4 @@ pub mod Margin
 pub mod SetLengths
 pub mod One
 pub mod DoneWhen
+pub mod Exact

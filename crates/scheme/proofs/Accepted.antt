@@ -17,7 +17,7 @@ use Rattle.codec.proofs.RoundTrip.{pack-unpack, packed-mod}
 use Rattle.scheme.specs.Parts.{hash, pkhOf}
 use Rattle.scheme.specs.Encaps.{encK, encB, encC, ciphertext, sharedSecret}
 use Rattle.scheme.specs.Decaps.{skRandomS, skPk, skPkh, ctC1, ctC2, ctSalt, ctB, ctC, decapsMessage, agrees, decapsK, decapsSecret}
-use Rattle.scheme.specs.Accepted.{HoldsItsHash, Remade, Accepts, AcceptedExactly}
+use Rattle.scheme.specs.Accepted.{HoldsItsHash, Remade, AcceptedExactly}
 use Rattle.scheme.proofs.Parts.{d-pos}
 use Rattle.scheme.proofs.Ciphertexts.{ct-B, ct-C}
 
