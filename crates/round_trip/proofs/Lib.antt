@@ -1,2 +1,3 @@
--- The third demand of the calls.
+-- What key and sealing leave, and the third demand of the calls.
+pub mod Sealed
 pub mod RoundTrip

@@ -1,10 +1,10 @@
 -- Where all that is lent fits, none of the three calls is refused (specs/ThereAndBack.antt).
 -- Assumes nothing.
-use mathlib.Core.Path.{_≡_, refl, sym, ap, _∙_, subst}
+use mathlib.Core.Path.{_≡_, sym, ap, _∙_, subst}
 use mathlib.Core.List.{List}
 use Prim.Native.Nat.{ℕ, _≤_}
 use native.Mathlib.Omega.{arith}
-use lib.ListN.{length, drop, replicate, length-append, length-drop, length-replicate}
+use lib.ListN.{length, length-append, length-drop, length-replicate}
 use Rattle.lists.specs.Lists.{wiped}
 use Rattle.sets.specs.Sets.{paramsOf}
 use Rattle.sets.specs.declared.Params.{Params}
@@ -12,13 +12,13 @@ use Rattle.sets.specs.declared.Answer.the-variants.{Done}
 use Rattle.sets.proofs.Facts.{valid}
 use Rattle.lengths.specs.Sized.{Scratch}
 use Rattle.scheme.proofs.Keys.{length-publicKey}
-use Rattle.frodo.specs.Keypair.{KeypairLeft, keypairLeaves}
-use Rattle.frodo.specs.Encaps.{EncapsLeft, encapsLeaves}
+use Rattle.frodo.specs.Keypair.{KeypairLeft}
+use Rattle.frodo.specs.Encaps.{EncapsLeft}
 use Rattle.frodo.proofs.DoneWhen.{keypair-done-when, keypair-done-left, encaps-done-when, encaps-done-left}
 use Rattle.round_trip.proofs.RoundTrip.{opening-done}
 use Rattle.trip.specs.Trip.{TripLent, TripLeft, keysLent, keysLeft, sealingLeft, tripLeaves}
-use Rattle.trip.specs.ThereAndBack.{AllDone, ThereAndBack, TripFits, FitsDone}
-use Rattle.trip.proofs.ThereAndBack.{e, d}
+use Rattle.trip.specs.ThereAndBack.{AllDone, TripFits, FitsDone}
+use Rattle.trip.proofs.ThereAndBack.{second, third, trip}
 
 -- a list whose front is wiped is as long as it was
 length-wiped : (k : ℕ) (l : List ℕ) → k ≤ length l → length (wiped k l) ≡ length l
@@ -48,27 +48,21 @@ module _ (i : TripLent) (f : TripFits i) where
 
   sealing-done : sealingLeft i .answer ≡ Done
   sealing-done =
-      encaps-done-when (e i) .1
+      encaps-done-when (second i) .1
       (record {
         a-set = f .a-set;
         sized = record { valid = valid (i .set); pk-long = pk-long; msg-long = f .msg-long; salt-long = f .salt-long; ct-long = f .ct-long; ss-long = f .ss-long; scratch = keys-room };
       })
 
   sealing-room : Scratch p (length (sealingLeft i .noise)) (length (sealingLeft i .work))
-  sealing-room = subst (λ (l : EncapsLeft). Scratch p (length (l .noise)) (length (l .work))) (sym (encaps-done-left (e i) sealing-done)) (wiped-room p (keysLeft i .noise) (keysLeft i .work) keys-room)
+  sealing-room = subst (λ (l : EncapsLeft). Scratch p (length (l .noise)) (length (l .work))) (sym (encaps-done-left (second i) sealing-done)) (wiped-room p (keysLeft i .noise) (keysLeft i .work) keys-room)
 
   all-done : AllDone (tripLeaves i .answers)
   unfolding tripLeaves
   all-done = record {
     keys = keys-done;
     sealing = sealing-done;
-    opening =
-        opening-done {k = keysLent i} {e = e i} {d = d i}
-        (record {
-          sealed = record { sealed-set = refl; public-key = refl; keys-done = keys-done; sealing-done = sealing-done };
-          opens = record { opened-set = refl; secret-key = refl; ciphertext = refl; ss-long = f .opened-long; scratch = sealing-room };
-          msg-long = f .back-long;
-        });
+    opening = opening-done {k = keysLent i} {e = second i} {d = third i} (trip i keys-done sealing-done (f .opened-long) (f .back-long) sealing-room);
   }
 
 pub fits-done : FitsDone

@@ -1,8 +1,12 @@
 -- Three calls in a row, each lent what those before it have left, are a round trip of crate `round_trip` (specs/ThereAndBack.antt); and the contract admits one outcome.
 -- Assumes nothing.
 use mathlib.Core.Path.{_≡_, refl, sym, ap, _∙_, subst}
+use lib.ListN.{length}
 use Rattle.lists.specs.Lists.{Below}
-use Rattle.frodo.specs.Keypair.{KeypairLent, KeypairLeft, keypairLeaves}
+use Rattle.sets.specs.Sets.{paramsOf}
+use Rattle.sets.specs.declared.Answer.the-variants.{Done}
+use Rattle.lengths.specs.Sized.{Scratch}
+use Rattle.frodo.specs.Keypair.{KeypairLeft, keypairLeaves}
 use Rattle.frodo.specs.Encaps.{EncapsLent, EncapsLeft, encapsLeaves}
 use Rattle.frodo.specs.Decaps.{DecapsLent, DecapsLeft, decapsLeaves}
 use Rattle.frodo.specs.One.{OneOutcome}
@@ -10,16 +14,16 @@ use Rattle.frodo.proofs.One.{by-function}
 use Rattle.frodo.proofs.DoneWhen.{decaps-done-when}
 use Rattle.round_trip.specs.RoundTrip.{Trip, ComesBack}
 use Rattle.round_trip.proofs.RoundTrip.{round-trip}
-use Rattle.trip.specs.Trip.{TripLent, TripLeft, keysLent, sealingLent, openingLent, keysLeft, sealingLeft, openingLeft, together, tripLeaves}
+use Rattle.trip.specs.Trip.{TripLent, TripLeft, keysLent, sealingLent, openingLent, keysLeft, sealingLeft, together, tripLeaves}
 use Rattle.trip.specs.ThereAndBack.{AllDone, ThereAndBack}
 
 module _ (i : TripLent) where
   -- what the second and the third call are lent
-  abbrev pub e : EncapsLent
-  e = sealingLent i (keysLeft i)
+  abbrev pub second : EncapsLent
+  second = sealingLent i (keysLeft i)
 
-  abbrev pub d : DecapsLent
-  d = openingLent i (keysLeft i) (sealingLeft i)
+  abbrev pub third : DecapsLent
+  third = openingLent i (keysLeft i) (sealingLeft i)
 
   -- three calls of which each leaves what its definition says leave all that `tripLeaves` says
   pub composed : {x : KeypairLeft} {y : EncapsLeft} {z : DecapsLeft}
@@ -30,19 +34,22 @@ module _ (i : TripLent) where
       let opened' = opened ∙ (λ j. decapsLeaves (openingLent i (made j) (sealed' j))) in
       λ j. together (made j) (sealed' j) (opened' j)
 
-  trip : AllDone (tripLeaves i .answers) → Trip (keysLent i) e d
-  unfolding tripLeaves
-  trip done =
-      let own = decaps-done-when d .0 (done .opening) .sized in
-      record {
-        sealed = record { sealed-set = refl; public-key = refl; keys-done = done .keys; sealing-done = done .sealing };
-        opens = record { opened-set = refl; secret-key = refl; ciphertext = refl; ss-long = own .ss-long; scratch = own .scratch };
-        msg-long = own .msg-long;
-      }
+  -- they are a round trip where the first two are done and the third has room
+  pub trip : keysLeft i .answer ≡ Done → sealingLeft i .answer ≡ Done
+      → length (i .opened) ≡ paramsOf (i .set) .secret → length (i .back) ≡ paramsOf (i .set) .secret
+      → Scratch (paramsOf (i .set)) (length (sealingLeft i .noise)) (length (sealingLeft i .work)) → Trip (keysLent i) second third
+  trip keys sealing opened-long back-long room = record {
+    sealed = record { sealed-set = refl; public-key = refl; keys-done = keys; sealing-done = sealing };
+    opens = record { opened-set = refl; secret-key = refl; ciphertext = refl; ss-long = opened-long; scratch = room };
+    msg-long = back-long;
+  }
 
   module _ (bytes : Below 256 (i .msg)) where
-    comes : AllDone (tripLeaves i .answers) → ComesBack (keysLent i) e d
-    comes done = round-trip (keysLent i) e d (trip done) bytes
+    comes : AllDone (tripLeaves i .answers) → ComesBack (keysLent i) second third
+    unfolding tripLeaves
+    comes done =
+        let own = decaps-done-when third .0 (done .opening) .sized in
+        round-trip (keysLent i) second third (trip (done .keys) (done .sealing) (own .ss-long) (own .msg-long) (own .scratch)) bytes
 
     there-and-back : ThereAndBack i (tripLeaves i)
     unfolding tripLeaves

@@ -3,7 +3,6 @@
 use mathlib.Core.Path.{_≡_}
 use mathlib.Core.Logic.{_↔_}
 use mathlib.Core.Bool.{true}
-use Prim.Native.Nat.{ℕ}
 use lib.ListN.{length}
 use Rattle.sets.specs.Sets.{known, paramsOf}
 use Rattle.sets.specs.declared.Answer.the-variants.{Done}
