@@ -8,7 +8,7 @@ use Rattle.frodo.specs.Margin.{marginLeaves}
 use Rattle.frodo.specs.One.{OneOutcome, Keypair, Encaps, Decaps, DecapsSecret, Margins}
 
 -- a contract that says what is left as a function of what was lent
-by-function : {Lent Left : Type 0} (f : Lent → Left) → OneOutcome (λ (i : Lent) (o : Left). o ≡ f i)
+pub by-function : {Lent Left : Type 0} (f : Lent → Left) → OneOutcome (λ (i : Lent) (o : Left). o ≡ f i)
 by-function f i x y e g = e ∙ sym g
 
 pub keypair-one : OneOutcome Keypair

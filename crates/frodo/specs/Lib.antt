@@ -6,3 +6,5 @@ pub mod Decaps
 pub mod Margin
 pub mod SetLengths
 pub mod One
+pub mod DoneWhen
+pub mod Exact

@@ -1,3 +1,3 @@
--- What a done call leaves, and the third demand of the calls.
-pub mod Done
+-- What key and sealing leave, and the third demand of the calls.
+pub mod Sealed
 pub mod RoundTrip

@@ -6,7 +6,7 @@ use mathlib.Core.Logic.{inl, inr}
 use mathlib.Core.Bool.{true}
 use mathlib.Core.List.{List}
 use Prim.Native.Nat.{ℕ, zero, suc, _+_, _*_, _-_, _/_, _%_, _≤_, _<_, max}
-use native.Mathlib.Nat.{mod-eq-of-lt, add-mod-right, not-suc-le-zero, le-suc-iff, suc-inj}
+use native.Mathlib.Nat.{mod-lt, mod-eq-of-lt, add-mod-right, not-suc-le-zero, le-suc-iff, suc-inj}
 use native.Mathlib.Numerals.{add-one}
 use native.Mathlib.Omega.{arith}
 use lib.ListN.{length, getD}
@@ -23,6 +23,7 @@ use Rattle.scheme.specs.Encaps.{sharedSecret}
 use Rattle.scheme.specs.Noise.{noiseAt, InRange, AllInRange}
 use Rattle.scheme.specs.Margin.{largest, sizeOf, largestSize, keptBy, noiseTable, marginSize, kept}
 use Rattle.scheme.specs.Demand3.{recoveredMessage, recoveredSecret}
+use Rattle.scheme.proofs.Parts.{q-pos}
 use Rattle.scheme.proofs.Demand3.{demand3}
 
 -- ---- the largest of some numbers
@@ -42,6 +43,12 @@ largest-le (suc n) f k l =
       | inr e ↦ let last = ap f (suc-inj e) in omega arith
     ]
 
+-- all of them are below what each is below
+pub largest-below : (n b : ℕ) (f : ℕ → ℕ) → 0 < b → ((k : ℕ) → f k < b) → largest n f < b
+unfolding largest
+largest-below zero b f some h = some
+largest-below (suc n) b f some h = let before = largest-below n b f some h in let last = h n in omega arith
+
 -- ---- the size of a word
 
 -- below half of q a word's size is the word itself
@@ -59,6 +66,10 @@ size-high c x l h =
     let turned : (x + 2 * c / 2) % (2 * c) ≡ x - c = ap (λ (z : ℕ). z % (2 * c)) once ∙ add-mod-right (x - c) (2 * c) ∙ mod-eq-of-lt (omega arith) in
     size-sub ((x + 2 * c / 2) % (2 * c)) (2 * c / 2) ∙ omega arith
 
+-- the size of any word is below q
+size-below : (q x : ℕ) → 0 < q → sizeOf q x < q
+size-below q x some = omega (arith, size-sub ((x + q / 2) % q) (q / 2), mod-lt (x + q / 2) some)
+
 -- a word whose size is below h is in range
 size-in-range : (q h x : ℕ) → sizeOf q x < h → InRange h (centred q x)
 size-in-range q h x l =
@@ -68,6 +79,13 @@ size-in-range q h x l =
 -- ---- the margin
 
 module _ (p : Params) (seed msg salt : List ℕ) where
+  -- the margin's size is below q
+  pub margin-size-below : Valid p → marginSize p seed msg salt < p .q
+  unfolding largestSize
+  margin-size-below valid =
+      let ws = noiseTable p seed msg salt in
+      largest-below (length ws) (p .q) (λ t. sizeOf (p .q) (getD ws t 0)) (q-pos p valid) (λ t. size-below (p .q) (getD ws t 0) (q-pos p valid))
+
   -- where the margin's size is below h every entry is in range
   pub margin-in-range : marginSize p seed msg salt < half (p .q) (p .b) → AllInRange p seed msg salt
   unfolding largestSize

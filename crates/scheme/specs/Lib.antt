@@ -6,3 +6,4 @@ pub mod Decaps
 pub mod Noise
 pub mod Margin
 pub mod Demand3
+pub mod Accepted

@@ -1,0 +1,3 @@
+-- What three calls in a row leave, and what comes back.
+pub mod Trip
+pub mod ThereAndBack
