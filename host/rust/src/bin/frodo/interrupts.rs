@@ -62,12 +62,11 @@ fn watch() {
     }
 }
 
-/// A file that an interrupt removes, as long as this value lives.
+/// A file that an interrupt removes, as long as this value lives. It is made, and listed, while interrupts are held.
 pub struct Listed(Option<usize>);
 
 impl Listed {
     pub fn new(path: &Path) -> Self {
-        WATCHING.call_once(watch);
         let Ok(path) = CString::new(path.as_os_str().as_bytes()) else { return Self(None) };
         let path = path.into_raw();
         Self(LISTED.iter().position(|slot| slot.compare_exchange(ptr::null_mut(), path, SeqCst, SeqCst).is_ok()))
@@ -82,9 +81,12 @@ impl Drop for Listed {
     }
 }
 
-/// Does its work while interrupts wait. Where one came meanwhile, the work is undone and the process ends.
+/// Does its work while interrupts wait. Where one came meanwhile, the work is undone and the process ends. Inside such work, more of it is a part of the whole.
 pub fn held<T>(work: impl FnOnce() -> T, undo: impl FnOnce(T)) -> T {
-    HELD.store(true, SeqCst);
+    WATCHING.call_once(watch);
+    if HELD.swap(true, SeqCst) {
+        return work();
+    }
     let done = work();
     if WAITING.load(SeqCst) != 0 {
         undo(done);

@@ -35,8 +35,8 @@ impl Temporary {
         let mut last = io::Error::from(ErrorKind::AlreadyExists);
         for name in names {
             let at = folder.join(name);
-            match make(&at) {
-                Ok(made) => return Ok((Self { _listed: Listed::new(&at), at }, made)),
+            match interrupts::held(|| make(&at).map(|made| (Self { _listed: Listed::new(&at), at }, made)), drop) {
+                Ok(made) => return Ok(made),
                 Err(error) if error.kind() == ErrorKind::AlreadyExists => last = error,
                 Err(error) => return Err(error),
             }
