@@ -49,6 +49,11 @@ mod sys;
 #[doc = include_str!("../../../README.md")]
 pub struct Readme;
 
+/// And that of the page on moving over.
+#[cfg(doctest)]
+#[doc = include_str!("../../../docs/MOVING-OVER.md")]
+pub struct MovingOver;
+
 pub use calls::{decapsulate, decapsulate_shared_secret, encapsulate, generate_keypair_from_seed, lengths, margin, Lengths, Margin, Scratch};
 pub use refusal::Refusal;
 

@@ -149,7 +149,7 @@ pub fn overview(commands: &[Command]) -> String {
     for command in commands {
         let _ = writeln!(text, "  {:8} {}", command.name, command.about);
     }
-    text + "\n`frodo COMMAND --help` tells the options. FILE may be - for standard input or output.\nNothing is written when something is refused.\n\n" + &statuses()
+    text + "  help     this, or with a command its options\n\n`frodo COMMAND --help` tells the options. FILE may be - for standard input or output.\nNothing is written when something is refused.\n\n" + &statuses()
 }
 
 /// A command's help.

@@ -16,7 +16,7 @@ pub enum Status {
 /// What `--help` says of each status.
 pub const STATUSES: [(Status, &str); 7] = [
     (Status::Done, "done; margin: kept; explain: the report is intact"),
-    (Status::Refused, "a file is missing, has a wrong length or would be overwritten: nothing was written"),
+    (Status::Refused, "a file is missing, has a wrong length, would be overwritten or cannot be written: nothing was written"),
     (Status::Usage, "the command line is wrong: nothing was written"),
     (Status::Damaged, "explain: the report is damaged (also where it was repaired)"),
     (Status::Spoiled, "margin: lost; explain: the noise spoiled the message"),

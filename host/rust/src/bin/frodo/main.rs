@@ -4,6 +4,7 @@ mod commands;
 mod explain;
 mod failure;
 mod files;
+mod interrupts;
 mod json;
 mod kem;
 mod outputs;
@@ -58,7 +59,10 @@ fn run(words: &[OsString]) -> Result<Status, Failure> {
     if first == "--help" || first == "-h" {
         return outputs::to_stdout(args::overview(&COMMANDS).as_bytes()).map(|()| Status::Done);
     }
-    if first == "--version" {
+    if first == "help" {
+        return help(rest);
+    }
+    if first == "--version" || first == "-V" {
         return outputs::to_stdout(concat!("frodo ", env!("CARGO_PKG_VERSION"), "\n").as_bytes()).map(|()| Status::Done);
     }
     let Some(command) = COMMANDS.iter().find(|c| first == c.name) else {
@@ -73,6 +77,15 @@ fn run(words: &[OsString]) -> Result<Status, Failure> {
     finish(command, &given, answer)
 }
 
+/// `frodo help` is `frodo --help`, and `frodo help COMMAND` is `frodo COMMAND --help`.
+fn help(words: &[OsString]) -> Result<Status, Failure> {
+    match words {
+        [] => run(&["--help".into()]),
+        [name] if COMMANDS.iter().any(|c| name == c.name) => run(&[name.clone(), "--help".into()]),
+        _ => Err(Failure::usage(format!("`frodo help` takes nothing or one command: {}", COMMANDS.map(|c| c.name).join(", ")))),
+    }
+}
+
 /// What can be refused before any work is done.
 fn check(given: &Given) -> Result<(), Failure> {
     let mut from_stdin = given.inputs().filter(|(_, path)| *path == "-").map(|(flag, _)| flag);
@@ -83,32 +96,33 @@ fn check(given: &Given) -> Result<(), Failure> {
     if let (true, Some((flag, _, _))) = (given.has("--json"), to_stdout) {
         return Err(Failure::usage(format!("--json and {flag} - both write to standard output")));
     }
-    outputs::check(given.outputs().map(|(flag, path, _)| (flag, path)), given.has("--force"))
+    outputs::check(given.inputs(), given.outputs().map(|(flag, path, _)| (flag, path)), given.has("--force"))
 }
 
-/// Writes the outputs, then says what was found: on standard error where an output has taken standard output.
+/// Writes the outputs, then says what was found: on standard error where an output has taken standard output. Where that cannot be said, the outputs are taken back.
 fn finish(command: &Command, given: &Given, answer: Answer) -> Result<Status, Failure> {
     let mut files = Vec::new();
     for (flag, bytes) in answer.outputs {
         files.extend(given.outputs().find(|(name, _, _)| *name == flag).map(|(_, path, secret)| Output { path, secret, bytes }));
     }
-    outputs::write(&files, given.has("--force"))?;
+    let placed = outputs::place(&files, given.has("--force"))?;
     let written: Vec<String> = files.iter().filter(|f| f.path != "-").map(|f| files::shown(f.path)).collect();
     if given.has("--json") {
         let mut fields = vec![("command", Json::text(command.name)), ("status", Json::Count(answer.status as usize))];
         fields.extend(answer.json);
         fields.push(("written", Json::List(written.into_iter().map(Json::Text).collect())));
-        outputs::to_stdout(format!("{}\n", Json::Object(fields)).as_bytes())?;
+        placed.or_undo(outputs::to_stdout(format!("{}\n", Json::Object(fields)).as_bytes()))?;
         return Ok(answer.status);
     }
     let mut text = answer.text;
     if !written.is_empty() {
         text += &format!("wrote {}\n", written.join(", "));
     }
-    if files.iter().any(|f| f.path == "-") {
+    if let Some(stream) = files.iter().find(|f| f.path == "-") {
+        placed.or_undo(outputs::to_stdout(&stream.bytes))?;
         say(&text);
     } else {
-        outputs::to_stdout(text.as_bytes())?;
+        placed.or_undo(outputs::to_stdout(text.as_bytes()))?;
     }
     Ok(answer.status)
 }
