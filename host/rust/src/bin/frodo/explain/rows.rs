@@ -3,16 +3,12 @@
 //! C - B'*S is the encoded message plus noise that is small beside h, so that each of its 64 entries stands near a multiple of 2h. Damage in row i of c1 or c2 moves
 //! the entries of row i alone. Where rows stand off, every change of two neighbouring bytes that brings all entries of a row back is a guess, the nearest one first.
 //! Where none does, every change of one byte that moves entries from one multiple to another is. Guesses need no trust: each is sealed again and compared.
+use super::matrix::{stored_s, word};
 use crate::sets::Set;
 use std::collections::HashSet;
 
 /// How many combinations of guesses are given at most where rows stand off.
 const MOST: usize = 20_000;
-
-/// Word `index` of bytes that hold words of d bits, highest bit first; 0 behind their end.
-pub fn word(bytes: &[u8], d: usize, index: usize) -> i32 {
-    (index * d..(index + 1) * d).fold(0, |word, bit| word << 1 | bytes.get(bit / 8).map_or(0, |byte| i32::from(byte >> (7 - bit % 8) & 1)))
-}
 
 /// Two neighbouring bytes of a row, and what a change of them does to the row's entries.
 struct Window {
@@ -41,9 +37,7 @@ impl<'a> Opening<'a> {
     fn new(set: &'a Set, secret: &[u8], report: &'a [u8]) -> Self {
         let (parts, d) = (set.sealed_parts(), set.log_q);
         let (c1, c2) = (&report[parts[0].1.clone()], &report[parts[1].1.clone()]);
-        let stored = &secret[set.secret_parts()[3].1.clone()];
-        let s_at = |k: usize, j: usize| i32::from(i16::from_le_bytes([stored[2 * (j * set.n + k)], stored[2 * (j * set.n + k) + 1]]));
-        let s: Vec<[i32; 8]> = (0..set.n).map(|k| std::array::from_fn(|j| s_at(k, j))).collect();
+        let s = stored_s(set, secret);
         let mut entries: [[i32; 8]; 8] = std::array::from_fn(|i| std::array::from_fn(|j| word(c2, d, 8 * i + j)));
         for (i, row) in entries.iter_mut().enumerate() {
             for (k, s_row) in s.iter().enumerate() {

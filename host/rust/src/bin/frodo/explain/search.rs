@@ -19,6 +19,16 @@ pub fn salts(from: &Candidate) -> impl Iterator<Item = Candidate> + '_ {
     })
 }
 
+/// Every salt that differs in its last bytes alone, which a report that ends too soon lacks.
+pub fn endings(from: &Candidate, count: usize) -> impl Iterator<Item = Candidate> + '_ {
+    (0..1_u32 << (8 * count)).map(move |value| {
+        let mut salt = from.salt.1.clone();
+        let start = salt.len() - count;
+        salt[start..].copy_from_slice(&value.to_be_bytes()[4 - count..]);
+        Candidate { salt: (Salt::End(count), salt), ..from.clone() }
+    })
+}
+
 /// Every message that differs in one group of B bits: what damage to one word of c2, or one spoiled entry, makes of it.
 pub fn messages<'a>(set: &Set, from: &'a Candidate) -> impl Iterator<Item = Candidate> + 'a {
     let bits = set.bits;
@@ -28,7 +38,7 @@ pub fn messages<'a>(set: &Set, from: &'a Candidate) -> impl Iterator<Item = Cand
             let at = entry * bits + bit;
             message[at / 8] ^= 1 << (at % 8);
         }
-        Candidate { message: (Message::Group(entry), message), ..from.clone() }
+        Candidate { message: (Message::Groups(entry, 1), message), ..from.clone() }
     })
 }
 
@@ -51,6 +61,8 @@ mod tests {
             let messages: HashSet<Vec<u8>> = messages(&set, &from).map(|c| c.message.1).collect();
             assert_eq!(messages.len(), 64 * ((1 << set.bits) - 1));
             assert!(!messages.contains(&from.message.1));
+            let ends: HashSet<Vec<u8>> = endings(&from, 2).map(|c| c.salt.1).collect();
+            assert!(ends.len() == 65536 && ends.contains(&from.salt.1));
         }
     }
 
@@ -58,6 +70,6 @@ mod tests {
     fn a_group_is_b_bits_lowest_first() {
         let set = sets::all()[2];
         let last = messages(&set, &start(&set)).last().unwrap().message;
-        assert_eq!(last, (Message::Group(63), [vec![0x5a; 31], vec![0xaa]].concat()));
+        assert_eq!(last, (Message::Groups(63, 1), [vec![0x5a; 31], vec![0xaa]].concat()));
     }
 }
