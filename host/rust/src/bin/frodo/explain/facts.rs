@@ -127,7 +127,7 @@ pub struct Tried {
     pub message_back: bool,
     /// The report opens to its secret.
     pub secret_back: bool,
-    /// The sealing itself opens to its message.
+    /// The sealing itself opens to its message; asked where the report is near it.
     pub opens_message: bool,
     /// The sealing itself opens to its secret.
     pub opens_secret: bool,
@@ -160,7 +160,7 @@ pub struct Facts {
     pub check: Option<KeyCheck>,
     /// With a seed and a secret key file: how the file compares with the seed's key.
     pub key_file: Option<Vec<Part>>,
-    /// The key as it stands in the file opens the report to the message and the secret of `tried`.
+    /// With a seed, where `tried` is near: the key as it stands in the file opens the report to its message and its secret.
     pub file_opens: bool,
     /// The sealing that comes nearest.
     pub tried: Tried,

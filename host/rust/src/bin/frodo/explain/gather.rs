@@ -136,8 +136,8 @@ fn concluded(kem: &mut Kem, case: &Case, look: Look<'_>, check: Option<KeyCheck>
     let inputs = Inputs { seed: judge.by_seed, message: case.message.is_some(), salt: case.salt.is_some() };
     let tried = tried(kem, judge.secret, &best, &opened)?;
     let file_opens = match &case.secret {
-        Some(file) => opens(kem, file, judge.report, &best)? == (true, true),
-        None => false,
+        Some(file) if key_file.is_some() && !best.far() => opens(kem, file, judge.report, &best)? == (true, true),
+        _ => false,
     };
     let margin = match &case.seed {
         Some(seed) if judge.by_seed && (!best.far() || inputs.message && inputs.salt) => Some(kem.margin(seed, &best.candidate.message.1, &best.candidate.salt.1)?),
@@ -154,14 +154,12 @@ fn opens(kem: &mut Kem, secret: &[u8], report: &[u8], attempt: &Attempt) -> Resu
 }
 
 fn tried(kem: &mut Kem, secret: &[u8], best: &Attempt, opened: &Opened) -> Result<Tried, Refusal> {
-    let (opens_message, opens_secret) = opens(kem, secret, &best.sealed.report, best)?;
-    Ok(Tried {
-        message: best.candidate.message.0,
-        salt: best.candidate.salt.0,
-        parts: best.parts.clone(),
-        message_back: opened.message == best.candidate.message.1,
-        secret_back: opened.key == best.sealed.key,
-        opens_message,
-        opens_secret,
-    })
+    let (message_back, secret_back) = (opened.message == best.candidate.message.1, opened.key == best.sealed.key);
+    let (opens_message, opens_secret) = match closeness(&best.parts) {
+        Closeness::Same => (message_back, secret_back),
+        Closeness::Near => opens(kem, secret, &best.sealed.report, best)?,
+        Closeness::Far => (false, false),
+    };
+    let (message, salt, parts) = (best.candidate.message.0, best.candidate.salt.0, best.parts.clone());
+    Ok(Tried { message, salt, parts, message_back, secret_back, opens_message, opens_secret })
 }

@@ -162,8 +162,8 @@ fn far(set: &Set, facts: &Facts) -> Finding {
     let inputs = facts.inputs;
     match facts.without {
         Some(without) => others(without),
-        None if bad_key(facts) => unjudged(facts),
         None if facts.found != facts.expected => length::unexplained(set, facts),
+        None if bad_key(facts) => unjudged(facts),
         None if inputs.message && inputs.salt && !facts.tried.message_back => unrelated(facts),
         None => undecided(facts),
     }
@@ -197,8 +197,10 @@ fn unrelated(facts: &Facts) -> Finding {
     let finding =
         Finding::new(Verdict::Undecided, format!("The report has no more in common with what sealing makes of {key}, message and salt than any other report has."))
             .because(Seen, format!("{} differ: as many as between two unrelated sealings.", counts(&facts.tried.parts)))
-            .because(Proved(ENCAPS_ONE), format!("{key}, message and salt fix every byte of the sealed report. If they are this report's, it was destroyed."))
+            .because(Proved(ENCAPS_ONE), format!("The {key}, the message and the salt fix every byte of the sealed report. If they are this report's, it was destroyed."))
             .because(Open, "Whether they are this report's, or it was not sealed to this key, or of another message and salt, and is whole.");
+    let carried = facts.tried.parts.iter().any(|p| p.name == "salt" && p.same());
+    let finding = finding.because_if(carried, Seen, "The given salt is the one that the report carries: the key or the message is not this report's, or c1 and c2 are destroyed.");
     noise(facts, finding).because(Next, "Keep the report, and try other keys, messages and salts before it is given up.")
 }
 
