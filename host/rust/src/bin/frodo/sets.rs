@@ -84,6 +84,14 @@ impl Set {
         self.noise_table().len() as i32
     }
 
+    /// The spread of an entry of S'E + E'' - E'S, each word of these being drawn by the table.
+    pub fn noise_spread(&self) -> f64 {
+        let above = |t: &u16| 1.0 - f64::from(t + 1) / 32768.0;
+        // a size is at least k with what lies above entry k - 1: the mean of its square is the sum of (2k - 1) times that
+        let variance: f64 = self.noise_table().iter().enumerate().map(|(k, t)| (2 * k + 1) as f64 * above(t)).sum();
+        (2.0 * self.n as f64 * variance * variance + variance).sqrt()
+    }
+
     /// The rate of the set's hashes in bytes: SHAKE128's or SHAKE256's.
     pub fn rate(&self) -> usize {
         if self.n == 640 {
@@ -219,6 +227,7 @@ mod tests {
         }
         assert_eq!(all().map(|s| s.half()), [4096, 4096, 2048]);
         assert_eq!(all().map(|s| s.noise_bound()), [12, 10, 6]);
+        assert_eq!(all().map(|s| s.noise_spread().round() as u32), [281, 234, 102], "2.8, 2.3 and 1.4 squared, times the root of 2n");
         assert_eq!(report_lengths().into_keys().collect::<Vec<_>>(), [9720, 9752, 15744, 15792, 21632, 21696]);
     }
 

@@ -1,4 +1,5 @@
 //! frodo explain: was the report damaged, or did the noise spoil it?
+mod burst;
 mod facts;
 mod finding;
 mod gather;
