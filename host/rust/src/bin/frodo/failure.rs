@@ -15,13 +15,13 @@ pub enum Status {
 
 /// What `--help` says of each status.
 pub const STATUSES: [(Status, &str); 7] = [
-    (Status::Done, "done; margin: kept; explain: the report is intact"),
+    (Status::Done, "done; margin: kept; check: the secret key file is whole; explain: the report is intact"),
     (Status::Refused, "a file is missing, has a wrong length, would be overwritten or cannot be written: nothing was written"),
     (Status::Usage, "the command line is wrong: nothing was written"),
     (Status::Damaged, "explain: the report is damaged (also where it was repaired)"),
     (Status::Spoiled, "margin: lost; explain: the noise spoiled the message"),
     (Status::Undecided, "explain: cannot be decided from what was given"),
-    (Status::KeyDamaged, "explain: the report is intact, but the secret key file is not"),
+    (Status::KeyDamaged, "explain: the report is intact, but the secret key file is not, or is of another key; check: it is not whole, or not the seed's"),
 ];
 
 /// Why a run was refused: nothing has been written.

@@ -1,5 +1,6 @@
 //! frodo: the library on the command line. Makes keys, seals and opens, and settles whether a report that does not open was damaged or spoiled by noise.
 mod args;
+mod check;
 mod commands;
 mod explain;
 mod failure;
@@ -7,6 +8,7 @@ mod files;
 mod interrupts;
 mod json;
 mod kem;
+mod keyfile;
 mod outputs;
 mod sets;
 
@@ -28,7 +30,7 @@ pub struct Answer {
     pub outputs: Vec<(&'static str, Vec<u8>)>,
 }
 
-const COMMANDS: [Command; 6] = [commands::SETS, commands::KEYGEN, commands::SEAL, commands::OPEN, commands::MARGIN, explain::EXPLAIN];
+const COMMANDS: [Command; 7] = [commands::SETS, commands::KEYGEN, commands::SEAL, commands::OPEN, commands::MARGIN, check::CHECK, explain::EXPLAIN];
 
 fn main() -> ExitCode {
     let words: Vec<OsString> = env::args_os().skip(1).collect();

@@ -1,6 +1,7 @@
 //! The three sets as the program sees them: names, lengths, the parts of a report and of a secret key, and which set some files belong to.
 use crate::failure::Failure;
 use crate::files::File;
+use std::collections::BTreeMap;
 use std::ffi::OsStr;
 use std::ops::Range;
 use stroupadal::{lengths, Frodo1344Shake, Frodo640Shake, Frodo976Shake, Lengths};
@@ -53,6 +54,11 @@ impl Set {
         spans(&[("s", secret), ("seedA", 16), ("B", self.lengths.public_key - 16), ("S", 16 * self.n), ("pkh", secret)])
     }
 
+    /// Where a secret key holds a part.
+    pub fn secret_part(&self, name: &str) -> Range<usize> {
+        self.secret_parts().into_iter().find(|(part, _)| *part == name).map_or(0..0, |(_, span)| span)
+    }
+
     /// Where a secret key holds the public key.
     pub fn public_in_secret(&self) -> Range<usize> {
         let start = self.lengths.shared_secret;
@@ -63,6 +69,50 @@ impl Set {
     pub fn salt_in_sealed(&self) -> Range<usize> {
         self.lengths.ciphertext - self.lengths.salt..self.lengths.ciphertext
     }
+
+    /// The table of the noise, its last entry left out (docs/RULES.md, 4.5).
+    pub fn noise_table(&self) -> &'static [u16] {
+        match self.n {
+            640 => &[4643, 13363, 20579, 25843, 29227, 31145, 32103, 32525, 32689, 32745, 32762, 32766],
+            976 => &[5638, 15915, 23689, 28571, 31116, 32217, 32613, 32731, 32760, 32766],
+            _ => &[9142, 23462, 30338, 32361, 32725, 32765],
+        }
+    }
+
+    /// The largest size of a sampled entry.
+    pub fn noise_bound(&self) -> i32 {
+        self.noise_table().len() as i32
+    }
+
+    /// The spread of an entry of S'E + E'' - E'S, each word of these being drawn by the table.
+    pub fn noise_spread(&self) -> f64 {
+        let above = |t: &u16| 1.0 - f64::from(t + 1) / 32768.0;
+        // a size is at least k with what lies above entry k - 1: the mean of its square is the sum of (2k - 1) times that
+        let variance: f64 = self.noise_table().iter().enumerate().map(|(k, t)| (2 * k + 1) as f64 * above(t)).sum();
+        (2.0 * self.n as f64 * variance * variance + variance).sqrt()
+    }
+
+    /// The rate of the set's hashes in bytes: SHAKE128's or SHAKE256's.
+    pub fn rate(&self) -> usize {
+        if self.n == 640 {
+            168
+        } else {
+            136
+        }
+    }
+}
+
+/// The lengths that whole reports have, in order, and what has that length: the reports of the sets, and those that are made without salt.
+pub fn report_lengths() -> BTreeMap<usize, Vec<String>> {
+    let mut lengths: BTreeMap<usize, Vec<String>> = BTreeMap::new();
+    for set in all() {
+        let Lengths { ciphertext, salt, .. } = set.lengths;
+        lengths.entry(ciphertext).or_default().push(format!("a report of set {}", set.number));
+        if salt > 0 {
+            lengths.entry(ciphertext - salt).or_default().push(format!("a report without salt, of the sizes of set {}", set.number));
+        }
+    }
+    lengths
 }
 
 fn spans(parts: &[(&'static str, usize)]) -> Vec<Span> {
@@ -176,6 +226,9 @@ mod tests {
             assert_eq!(set.public_in_secret(), parts[1].1.start..parts[2].1.end);
         }
         assert_eq!(all().map(|s| s.half()), [4096, 4096, 2048]);
+        assert_eq!(all().map(|s| s.noise_bound()), [12, 10, 6]);
+        assert_eq!(all().map(|s| s.noise_spread().round() as u32), [281, 234, 102], "2.8, 2.3 and 1.4 squared, times the root of 2n");
+        assert_eq!(report_lengths().into_keys().collect::<Vec<_>>(), [9720, 9752, 15744, 15792, 21632, 21696]);
     }
 
     #[test]

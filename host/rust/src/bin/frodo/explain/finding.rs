@@ -91,7 +91,13 @@ impl Finding {
         self
     }
 
-    /// The same where a condition holds.
+    /// With one more reason, before all others.
+    pub fn first(mut self, weight: Weight, text: impl Into<String>) -> Self {
+        self.reasons.insert(0, (weight, text.into()));
+        self
+    }
+
+    /// The same as `because`, where a condition holds.
     pub fn because_if(self, holds: bool, weight: Weight, text: impl Into<String>) -> Self {
         if holds {
             self.because(weight, text)

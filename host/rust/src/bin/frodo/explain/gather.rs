@@ -1,17 +1,15 @@
 //! Gathers the facts: opens the report, seals again, compares, and searches where that is far off.
-use super::facts::{closeness, compare, Closeness, Facts, Inputs, Message, Part, Salt, Tried};
-use super::rows;
-use super::search::{messages, salts, Candidate};
-use super::sieve::Sieve;
+use super::facts::{closeness, compare, Closeness, Facts, Inputs, Message, Part, Salt, Tried, WithoutInputs};
+use super::search::Candidate;
+use super::seek;
 use crate::kem::{Kem, Opened, Sealed};
+use crate::keyfile::KeyCheck;
 use crate::sets::Set;
-use std::io::{self, IsTerminal};
-use std::thread;
 use stroupadal::Refusal;
 
-/// A report, the secret key, and what else there is. All lengths are the set's.
+/// A report, and what else there is: a secret key, a seed, or both. All lengths but the report's are the set's.
 pub struct Case {
-    pub secret: Vec<u8>,
+    pub secret: Option<Vec<u8>>,
     pub report: Vec<u8>,
     pub seed: Option<Vec<u8>>,
     pub message: Option<Vec<u8>>,
@@ -26,133 +24,127 @@ pub struct Gathered {
 }
 
 /// A sealing of a candidate, and how the report compares with it.
-struct Attempt {
-    candidate: Candidate,
-    sealed: Sealed,
-    parts: Vec<Part>,
+pub struct Attempt {
+    pub candidate: Candidate,
+    pub sealed: Sealed,
+    pub parts: Vec<Part>,
 }
 
-/// The key that judges, and the report.
-struct Judge<'a> {
-    set: Set,
-    secret: &'a [u8],
-    report: &'a [u8],
+impl Attempt {
+    pub fn far(&self) -> bool {
+        closeness(&self.parts) == Closeness::Far
+    }
 }
 
-impl Judge<'_> {
-    fn attempt(&self, candidate: Candidate) -> Result<Attempt, Refusal> {
+/// A key that may judge, and the report.
+pub struct Judge<'a> {
+    pub set: Set,
+    /// The key is the seed's.
+    pub by_seed: bool,
+    pub secret: &'a [u8],
+    /// The bytes that are there, at most as many as a report has.
+    pub there: &'a [u8],
+    /// The same, and zeros for those that are not.
+    pub report: &'a [u8],
+}
+
+/// What a key says of the report.
+struct Look<'a> {
+    judge: Judge<'a>,
+    opened: Opened,
+    best: Attempt,
+    without: Option<WithoutInputs>,
+    searched: Option<usize>,
+}
+
+impl Look<'_> {
+    fn tied(&self) -> bool {
+        !self.best.far() || self.without.is_some()
+    }
+}
+
+impl<'a> Judge<'a> {
+    pub fn attempt(&self, candidate: Candidate) -> Result<Attempt, Refusal> {
         let public = &self.secret[self.set.public_in_secret()];
         let sealed = Kem::new(self.set).seal(public, &candidate.message.1, &candidate.salt.1)?;
-        let parts = compare(&self.set.sealed_parts(), self.report, &sealed.report);
+        let parts = compare(&self.set.sealed_parts(), self.there, &sealed.report);
         Ok(Attempt { candidate, sealed, parts })
     }
 
-    /// The first of some candidates that comes near.
-    fn first_near(&self, sieve: &Sieve, what: &str, candidates: &[Candidate]) -> Result<Option<Attempt>, Refusal> {
-        let cores = thread::available_parallelism().map_or(1, usize::from);
-        for (count, batch) in candidates.chunks(BATCH * cores).enumerate() {
-            progress(&format!("\rsearching: {what}, {} of {}    ", count * BATCH * cores, candidates.len()));
-            for candidate in sifted(sieve, batch) {
-                let attempt = self.attempt(candidate.clone())?;
-                if closeness(&attempt.parts) != Closeness::Far {
-                    return Ok(Some(attempt));
-                }
-            }
-        }
-        Ok(None)
-    }
-
-    /// Searches near a candidate, changing nothing that was given: what was found, and how many candidates there were.
-    fn search(&self, case: &Case, from: &Candidate) -> Result<(Option<Attempt>, usize), Refusal> {
-        let (any_salt, any_message) = (case.salt.is_none(), case.message.is_none());
-        let in_rows = || {
-            let (rows, guesses) = rows::messages(&self.set, self.secret, self.report);
-            guesses.into_iter().map(|message| Candidate { message: (Message::Rows(rows), message), ..from.clone() }).collect()
-        };
-        let stages: [Stage<'_>; 3] = [
-            (any_salt, "one byte of the salt", &|| salts(from).collect()),
-            (any_message, "one group of the message", &|| messages(&self.set, from).collect()),
-            (any_message, "bytes of c1 and c2", &in_rows),
-        ];
-        crate::say("searching for small damage; --no-search leaves that out\n");
-        let sieve = Sieve::new(self.set, &self.secret[self.set.public_in_secret()], self.report);
-        let (mut found, mut count) = (None, 0);
-        for (_, what, stage) in stages.into_iter().filter(|(wanted, _, _)| *wanted) {
-            let candidates = stage();
-            count += candidates.len();
-            found = self.first_near(&sieve, what, &candidates)?;
-            if found.is_some() {
+    /// Holds the report against a sealing of the inputs and, where that is far, against those that leave an input out.
+    fn look(self, case: &Case) -> Result<Look<'a>, Refusal> {
+        let opened = Kem::new(self.set).open(self.secret, self.report)?;
+        let best = self.attempt(self.candidate(case, &opened, true, true))?;
+        let (message, salt) = (case.message.is_some(), case.salt.is_some());
+        let fewer = [(false, true), (true, false), (true, true)].into_iter().filter(|(m, s)| (message || !m) && (salt || !s));
+        let mut without = None;
+        for (no_message, no_salt) in fewer.filter(|_| best.far()) {
+            let attempt = self.attempt(self.candidate(case, &opened, !no_message, !no_salt))?;
+            if !attempt.far() {
+                without = Some(WithoutInputs { message: no_message, salt: no_salt, closeness: closeness(&attempt.parts) });
                 break;
             }
         }
-        progress("\r                                                            \r");
-        Ok((found, count))
+        Ok(Look { judge: self, opened, best, without, searched: None })
+    }
+
+    /// What the report opens to and carries, or in place of that what was given, where it is to be used.
+    fn candidate(&self, case: &Case, opened: &Opened, message: bool, salt: bool) -> Candidate {
+        let given = |input: &Option<Vec<u8>>, used: bool| input.clone().filter(|_| used);
+        let carried = || (Salt::Carried, self.report[self.set.salt_in_sealed()].to_vec());
+        Candidate {
+            message: given(&case.message, message).map_or_else(|| (Message::Opened, opened.message.clone()), |m| (Message::Given, m)),
+            salt: given(&case.salt, salt).map_or_else(carried, |s| (Salt::Given, s)),
+        }
     }
 }
 
-/// A part of the search: whether it is wanted, what is changed in it, and its candidates.
-type Stage<'a> = (bool, &'static str, &'a dyn Fn() -> Vec<Candidate>);
-
-/// How many candidates a core takes at a time.
-const BATCH: usize = 1024;
-
-/// A line that is written over, on a terminal only.
-fn progress(line: &str) {
-    if io::stderr().is_terminal() {
-        crate::say(line);
-    }
-}
-
-/// The candidates that the sieve lets through, in their order; the work is shared among the cores.
-fn sifted<'a>(sieve: &Sieve, candidates: &'a [Candidate]) -> Vec<&'a Candidate> {
-    let sift = |part: &'a [Candidate]| part.iter().filter(|c| sieve.lets_through(c)).collect::<Vec<_>>();
-    thread::scope(|scope| {
-        let running: Vec<_> = candidates.chunks(BATCH).map(|part| scope.spawn(move || sift(part))).collect();
-        running.into_iter().flat_map(|part| part.join().expect("the sieve does not panic")).collect()
-    })
-}
-
-/// What the report opens to and carries, and what was given in place of that.
-fn candidates(kem: &Kem, case: &Case, opened: &Opened) -> (Candidate, Candidate) {
-    let own = Candidate { message: (Message::Opened, opened.message.clone()), salt: (Salt::Carried, case.report[kem.set.salt_in_sealed()].to_vec()) };
-    let given = Candidate {
-        message: case.message.clone().map_or_else(|| own.message.clone(), |m| (Message::Given, m)),
-        salt: case.salt.clone().map_or_else(|| own.salt.clone(), |s| (Salt::Given, s)),
-    };
-    (own, given)
-}
-
-/// Gathers all facts of a case.
+/// Gathers all facts of a case. The seed's key is asked first, then the file's where its public key is another: the report tells which of them is its own.
 pub fn gather(kem: &mut Kem, case: &Case) -> Result<Gathered, Refusal> {
-    let spans = kem.set.secret_parts();
-    let made = case.seed.as_ref().map(|seed| kem.keys(seed)).transpose()?;
-    let key_file = made.as_ref().map(|keys| compare(&spans, &case.secret, &keys.secret));
-    let secret = made.map_or_else(|| case.secret.clone(), |keys| keys.secret);
-    let opened = kem.open(&secret, &case.report)?;
-    let (own, given) = candidates(kem, case, &opened);
-
-    let judge = Judge { set: kem.set, secret: &secret, report: &case.report };
-    let mut best = judge.attempt(given.clone())?;
-    let (mut own_closeness, mut searched) = (None, None);
-    if closeness(&best.parts) == Closeness::Far {
-        if case.message.is_some() || case.salt.is_some() {
-            own_closeness = Some(closeness(&judge.attempt(own)?.parts));
-        }
-        if case.search && own_closeness.unwrap_or(Closeness::Far) == Closeness::Far && (case.message.is_none() || case.salt.is_none()) {
-            let (found, count) = judge.search(case, &given)?;
-            searched = Some(count);
-            best = found.unwrap_or(best);
+    let set = kem.set;
+    let made = case.seed.as_ref().map(|seed| kem.keys(seed)).transpose()?.map(|keys| keys.secret);
+    let there = &case.report[..case.report.len().min(set.lengths.ciphertext)];
+    let mut report = there.to_vec();
+    report.resize(set.lengths.ciphertext, 0);
+    let public = |secret: &[u8]| secret[set.public_in_secret()].to_vec();
+    let another = case.secret.as_ref().filter(|file| made.as_ref().is_none_or(|made| public(made) != public(file)));
+    let keys = [(true, made.as_ref()), (false, another)].into_iter().filter_map(|(by_seed, secret)| Some((by_seed, secret?)));
+    let mut looks = Vec::new();
+    for (by_seed, secret) in keys {
+        looks.push(Judge { set, by_seed, secret, there, report: &report }.look(case)?);
+    }
+    let check = case.secret.as_ref().map(|file| KeyCheck::of(&set, file));
+    let useless = |look: &Look| !look.judge.by_seed && check.as_ref().is_some_and(|c| c.off != [0; 8]);
+    if case.search && !looks.iter().any(Look::tied) {
+        for look in looks.iter_mut().filter(|look| !useless(look)) {
+            let (found, count) = seek::search(&look.judge, case, &look.best.candidate)?;
+            look.searched = count;
+            if let Some(found) = found {
+                look.best = found;
+                break;
+            }
         }
     }
-    let inputs = Inputs { seed: case.seed.is_some(), message: case.message.is_some(), salt: case.salt.is_some() };
-    let tried = tried(kem, &secret, &best, &opened)?;
-    let file_opens = opens(kem, &case.secret, &case.report, &best)? == (true, true);
-    let known = closeness(&best.parts) != Closeness::Far || inputs.message && inputs.salt;
+    let chosen = looks.iter().position(Look::tied).unwrap_or(0);
+    let key_file = made.as_ref().zip(case.secret.as_ref()).map(|(made, file)| compare(&set.secret_parts(), file, made));
+    concluded(kem, case, looks.swap_remove(chosen), check, key_file)
+}
+
+/// The facts of what the key that judges has said.
+fn concluded(kem: &mut Kem, case: &Case, look: Look<'_>, check: Option<KeyCheck>, key_file: Option<Vec<Part>>) -> Result<Gathered, Refusal> {
+    let Look { judge, opened, best, without, searched } = look;
+    let inputs = Inputs { seed: judge.by_seed, message: case.message.is_some(), salt: case.salt.is_some() };
+    let tried = tried(kem, judge.secret, &best, &opened)?;
+    let file_opens = match &case.secret {
+        Some(file) if key_file.is_some() && !best.far() => opens(kem, file, judge.report, &best)? == (true, true),
+        _ => false,
+    };
     let margin = match &case.seed {
-        Some(seed) if known => Some(kem.margin(seed, &best.candidate.message.1, &best.candidate.salt.1)?),
+        Some(seed) if judge.by_seed && (!best.far() || inputs.message && inputs.salt) => Some(kem.margin(seed, &best.candidate.message.1, &best.candidate.salt.1)?),
         _ => None,
     };
-    Ok(Gathered { facts: Facts { inputs, key_file, file_opens, tried, own: own_closeness, margin, searched }, sealed: best.sealed })
+    let (found, expected) = (case.report.len(), kem.set.lengths.ciphertext);
+    Ok(Gathered { facts: Facts { inputs, found, expected, check, key_file, file_opens, tried, without, margin, searched }, sealed: best.sealed })
 }
 
 /// Whether a key opens some bytes to an attempt's message, and to its secret.
@@ -162,14 +154,12 @@ fn opens(kem: &mut Kem, secret: &[u8], report: &[u8], attempt: &Attempt) -> Resu
 }
 
 fn tried(kem: &mut Kem, secret: &[u8], best: &Attempt, opened: &Opened) -> Result<Tried, Refusal> {
-    let (opens_message, opens_secret) = opens(kem, secret, &best.sealed.report, best)?;
-    Ok(Tried {
-        message: best.candidate.message.0,
-        salt: best.candidate.salt.0,
-        parts: best.parts.clone(),
-        message_back: opened.message == best.candidate.message.1,
-        secret_back: opened.key == best.sealed.key,
-        opens_message,
-        opens_secret,
-    })
+    let (message_back, secret_back) = (opened.message == best.candidate.message.1, opened.key == best.sealed.key);
+    let (opens_message, opens_secret) = match closeness(&best.parts) {
+        Closeness::Same => (message_back, secret_back),
+        Closeness::Near => opens(kem, secret, &best.sealed.report, best)?,
+        Closeness::Far => (false, false),
+    };
+    let (message, salt, parts) = (best.candidate.message.0, best.candidate.salt.0, best.parts.clone());
+    Ok(Tried { message, salt, parts, message_back, secret_back, opens_message, opens_secret })
 }

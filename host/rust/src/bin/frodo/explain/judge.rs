@@ -1,12 +1,13 @@
 //! The verdict, as a function of the facts alone.
-use super::facts::{closeness, Closeness, Facts, Message, Part, Salt};
+use super::facts::{closeness, counts, Closeness, Facts, Message, Part, Salt, WithoutInputs};
 use super::finding::{Finding, Verdict, Weight, ACCEPTED, ENCAPS_ONE, KEPT_BACK, KEY_PASSES, RESEALED, THIRD_DEMAND};
+use super::{key, length};
 use crate::failure::Status;
-use crate::sets::{self, Set};
+use crate::sets::Set;
 use Weight::{Likely, Next, Open, Proved, Seen};
 
-/// The verdict on a report of the right length.
-pub fn judge(facts: &Facts) -> Finding {
+/// The verdict.
+pub fn judge(set: &Set, facts: &Facts) -> Finding {
     let tried = &facts.tried;
     let near = closeness(&tried.parts);
     let contradicted = facts.inputs.seed && near == Closeness::Same && (tried.message_back && !tried.secret_back || !tried.message_back && kept(facts) == Some(true));
@@ -14,25 +15,28 @@ pub fn judge(facts: &Facts) -> Finding {
         Closeness::Same if contradicted => contradiction(),
         Closeness::Same if tried.message_back => whole(facts),
         Closeness::Same if facts.inputs.seed => spoiled(facts),
-        Closeness::Same => noise_or_key(facts),
+        Closeness::Same if s_fits(facts) => spoiled_by_a_whole_key(facts),
+        Closeness::Same => s_damaged(facts),
         Closeness::Near => damaged(facts),
-        Closeness::Far => far(facts),
+        Closeness::Far => far(set, facts),
     };
     let known = near != Closeness::Far && !contradicted;
-    Finding { known, ..key_file(facts, finding) }
-}
-
-/// The verdict on a report of another length.
-pub fn wrong_length(set: &Set, found: usize) -> Finding {
-    let expected = set.lengths.ciphertext;
-    let finding = Finding::new(Verdict::Damaged, format!("The report has {found} bytes, and a report of set {} has {expected}.", set.number));
-    let other = sets::all().into_iter().find(|s| s.lengths.ciphertext == found);
-    let text = other.map_or_else(|| "No set's report has that length.".to_string(), |s| format!("That is the length of a report of set {}.", s.number));
-    finding.because(Seen, text).because(Next, "Nothing is guessed about which bytes are missing or too many: get the report again.")
+    let finding = if facts.found > facts.expected && facts.tied() { length::longer(set, facts, finding) } else { finding };
+    Finding { known, ..key::told(facts, finding) }
 }
 
 fn kept(facts: &Facts) -> Option<bool> {
     facts.margin.map(|m| m.kept)
+}
+
+/// S in the key file that judges fits the public key beside it.
+fn s_fits(facts: &Facts) -> bool {
+    facts.check.as_ref().is_some_and(|check| check.s_fits())
+}
+
+/// The key that judges is a file's, and its parts do not fit each other.
+fn bad_key(facts: &Facts) -> bool {
+    !facts.inputs.seed && facts.check.as_ref().is_some_and(|check| !check.whole())
 }
 
 /// The sealing that was tried, in words.
@@ -40,22 +44,18 @@ fn sealing(facts: &Facts) -> String {
     let message = match facts.tried.message {
         Message::Given => "the given message".to_string(),
         Message::Opened => "the message that the report opens to".to_string(),
-        Message::Group(entry) => format!("the message that it opens to, with the group at row {}, column {} changed,", entry / 8, entry % 8),
+        Message::Groups(entry, 1) => format!("the message that it opens to, with the group at row {}, column {} changed,", entry / 8, entry % 8),
+        Message::Groups(entry, count) => format!("the message that it opens to, with {count} groups from row {}, column {} on changed,", entry / 8, entry % 8),
         Message::Rows(rows) => format!("the message that it opens to when the damage in {rows} of the 8 rows of c1 and c2 is undone"),
     };
     let salt = match facts.tried.salt {
         Salt::Given => "the given salt".to_string(),
         Salt::Carried => "the report's own salt".to_string(),
+        Salt::End(count) => format!("the report's salt with the last {count} bytes of it put back"),
         Salt::Byte(byte) => format!("the report's salt with byte {byte} of it changed"),
     };
     let key = if facts.inputs.seed { "the seed's public key" } else { "the public key in the secret key file" };
     format!("{message} with {salt} under {key}")
-}
-
-/// Counts of what differs, part by part.
-pub fn counts(parts: &[Part]) -> String {
-    let some: Vec<String> = parts.iter().filter(|p| p.differ > 0).map(|p| format!("{} of {} bytes of {}", p.differ, p.bytes, p.name)).collect();
-    some.join(", ")
 }
 
 /// What is known of the noise, where a seed has told it.
@@ -86,12 +86,12 @@ fn whole(facts: &Facts) -> Finding {
 
 /// The bytes are right and the secret is not: decapsulation, which goes by the stored pkh, did not accept what the public key makes.
 fn unfit(finding: Finding) -> Finding {
-    let headline = "The report is, in every byte, what sealing makes; the secret key file is damaged: its pkh is not the hash of its public key.";
+    let headline = "The secret key file is damaged: its pkh is not the hash of its public key. The report is, in every byte, what sealing makes.";
     let finding = Finding { headline: headline.into(), status: Status::KeyDamaged, ..finding };
     finding
         .because(Seen, "`frodo open` gives another secret than that sealing has.")
         .because(Proved(KEY_PASSES), "A generated key holds the hash of its public key, and decapsulation would then have accepted these bytes and given that secret.")
-        .because(Next, "--repair --key-out writes the report's secret. `frodo keygen --seed` makes the key file again.")
+        .because(Next, "--repair --key-out writes the report's secret. `frodo keygen --seed` makes the key again, under a new name.")
 }
 
 fn spoiled(facts: &Facts) -> Finding {
@@ -102,29 +102,42 @@ fn spoiled(facts: &Facts) -> Finding {
         .because_if(kept(facts) == Some(false), Seen, "The margin says so too: lost.")
 }
 
-fn noise_or_key(facts: &Facts) -> Finding {
-    let headline = "The report is not damaged: it is, in every byte, what sealing makes. Noise spoiled it, or S in the secret key file is damaged.";
-    Finding::new(Verdict::Undecided, headline)
+/// The same without a seed: the key file's S fits its public key.
+fn spoiled_by_a_whole_key(facts: &Facts) -> Finding {
+    let headline = "The report is, in every byte, what sealing makes, and its message does not come back: noise spoiled it.";
+    let likely = "That S in the secret key file is as it was generated: S is small, and leaves B - A*S small in every entry. A changed word of S would leave a whole column large.";
+    Finding::new(Verdict::Spoiled, headline)
         .because(Seen, format!("Sealing {} gives these very bytes, and the secret key opens them to another message.", sealing(facts)))
         .because(Proved(THIRD_DEMAND), "Under a key as it was generated the message fails to come back only where an entry of the noise is out of range.")
-        .because(Open, "Whether S in the secret key file is as it was generated.")
-        .because(Next, "--seed decides it: the key is then made again. --repair writes the report's secret, which is known either way.")
+        .because(Likely, likely)
+        .because(Next, "--repair writes the report's secret, which is known all the same. With --seed nothing is left to chance.")
+}
+
+/// The report is what sealing makes, and the key file's S does not fit its public key: it is what cannot open it.
+fn s_damaged(facts: &Facts) -> Finding {
+    let headline = "The secret key file is damaged, in S. The report is not: it is, in every byte, what sealing makes.";
+    Finding::new(Verdict::Intact, headline)
+        .because(Seen, format!("Sealing {} gives these very bytes, and the secret key opens them to another message.", sealing(facts)))
+        .because(Open, "Whether noise would spoil the message under the key as it was generated: that cannot be told with this S.")
+        .because(Next, "--seed decides that. --repair writes the report's secret, which is known either way.")
 }
 
 fn damaged(facts: &Facts) -> Finding {
     let tried = &facts.tried;
-    let finding = Finding::new(Verdict::Damaged, format!("The report differs from the sealed one in {}.", counts(&tried.parts)))
+    let missing = facts.expected.saturating_sub(facts.found);
+    let cut = if missing > 0 { format!("The report ends too soon: {missing} bytes are missing. It") } else { "The report".to_string() };
+    let finding = Finding::new(Verdict::Damaged, format!("{cut} differs from the sealed one in {}.", counts(&tried.parts)))
         .because(Seen, format!("Sealing {} gives the sealed report.", sealing(facts)));
     let finding = if facts.inputs.message && facts.inputs.salt {
         finding.because(Proved(ENCAPS_ONE), "Public key, message and salt fix every byte of the sealed report, and these are not all of them.")
     } else {
-        let (differ, bytes) = tried.parts.iter().filter(|p| p.name != "salt").fold((0, 0), |(d, b), p| (d + p.differ, b + p.bytes));
+        let matrices = || tried.parts.iter().filter(|p| p.name != "salt");
+        let (agree, bytes) = (matrices().map(Part::agree).sum::<usize>(), matrices().map(|p| p.bytes - p.missing).sum::<usize>());
         let text = "Under a key as it was generated: if this message and this salt are those that were sealed, what was made again is the sealed report in every byte, \
             and its secret is the sealed one's.";
         let likely = format!(
-            "That they are: {} of {bytes} bytes of c1 and c2 agree. Sealings of another message or salt agree in a byte by chance only, 1 in 256, \
-            which rests on SHAKE and is not proved.",
-            bytes - differ
+            "That they are: {agree} of {bytes} bytes of c1 and c2 agree. Sealings of another message or salt agree in a byte by chance only, 1 in 256, \
+            which rests on SHAKE and is not proved."
         );
         finding.because(Proved(RESEALED), text).because(Likely, likely)
     };
@@ -140,40 +153,71 @@ fn confirmed(facts: &Facts, finding: Finding) -> Finding {
             .because(Seen, "The repaired report opens to this message, but to another secret: the secret key file's pkh is not the hash of its public key.")
             .because(Proved(KEY_PASSES), "A generated key holds that hash: the key file is damaged as well. The secret that --repair writes is the sealed one's."),
         (false, _) if facts.inputs.seed => finding.because(Proved(THIRD_DEMAND), "The repaired report does not open to this message: noise spoils it as well."),
-        (false, _) => {
-            finding.because(Open, "The repaired report does not open to this message: noise spoils it as well, or S in the secret key file is damaged. --seed decides.")
-        }
+        (false, _) if s_fits(facts) => finding.because(Likely, "The repaired report does not open to this message: noise spoils it as well. S fits the public key."),
+        (false, _) => finding.because(Seen, "The repaired report does not open to this message: S in the secret key file is damaged as well."),
     }
 }
 
-fn far(facts: &Facts) -> Finding {
+fn far(set: &Set, facts: &Facts) -> Finding {
     let inputs = facts.inputs;
-    match facts.own {
-        Some(own @ (Closeness::Same | Closeness::Near)) => others(own),
-        _ if inputs.seed && inputs.message && inputs.salt && !other_key(facts) && !facts.tried.message_back => destroyed(facts),
-        _ => undecided(facts),
+    match facts.without {
+        Some(without) => others(without),
+        None if facts.found != facts.expected => length::unexplained(set, facts),
+        None if bad_key(facts) => unjudged(facts),
+        None if inputs.message && inputs.salt && !facts.tried.message_back => unrelated(facts),
+        None => undecided(facts),
     }
 }
 
-/// The seed makes a wholly different key from the file's.
-fn other_key(facts: &Facts) -> bool {
-    facts.key_file.as_ref().is_some_and(|parts| parts.iter().any(|p| p.name == "B" && 2 * p.differ >= p.bytes))
+/// The report is a sealing to this key, of other inputs than those that were given.
+fn others(without: WithoutInputs) -> Finding {
+    let what = if without.closeness == Closeness::Same { "in every byte a sealing" } else { "in part a sealing, damaged," };
+    let (wrong, flags, seen) = match (without.message, without.salt) {
+        (true, true) => ("message and salt", "--message and --salt", "what it opens to with the salt that it carries"),
+        (true, false) => ("message", "--message", "what it opens to with the given salt, or with the one that it carries,"),
+        (false, _) => ("salt", "--salt", "the given message, or what it opens to, with the salt that it carries"),
+    };
+    Finding::new(Verdict::Undecided, format!("The report is {what} to this key, but not of the {wrong} that was given: that is another report's, or damaged."))
+        .because(Seen, format!("Sealing {seen} gives it; sealing all that was given gives wholly other bytes."))
+        .because(Open, format!("Whether the {wrong} belongs to another report, or the report was replaced by another."))
+        .because(Next, format!("Without {flags} it is judged by itself."))
 }
 
-fn others(own: Closeness) -> Finding {
-    let what = if own == Closeness::Same { "in every byte a sealing" } else { "all but a few bytes of a sealing" };
-    Finding::new(Verdict::Undecided, format!("The report is {what} to this key, but not of the message and salt that were given."))
-        .because(Seen, "Sealing what it opens to with the salt that it carries gives it; sealing the given message or salt gives wholly other bytes.")
-        .because(Open, "Whether message and salt belong to another report, or the report was replaced by another.")
-        .because(Next, "Without --message and --salt it is judged by itself.")
+/// The key file is damaged, and the report cannot be judged with it.
+fn unjudged(facts: &Facts) -> Finding {
+    Finding::new(Verdict::Undecided, "The secret key file is damaged, and with it the report cannot be judged.")
+        .because(Seen, format!("Sealing {} gives other bytes nearly everywhere, as it does under any damaged public key.", sealing(facts)))
+        .because(Open, "Whether the report is intact.")
+        .because(Next, "Keep the report. The seed (--seed), or a whole copy of the secret key, can judge it; `frodo check` tells whether a copy is whole.")
 }
 
-fn destroyed(facts: &Facts) -> Finding {
-    let text = "Seed, message and salt fix every byte of the sealed report. If they are this report's, it was damaged.";
-    let finding = Finding::new(Verdict::Damaged, format!("The report is not what sealing makes of seed, message and salt: {} differ.", counts(&facts.tried.parts)))
-        .because(Proved(ENCAPS_ONE), text)
-        .because(Open, "Whether they are this report's: so many bytes differ as between two unrelated sealings.");
-    noise(facts, finding)
+/// Nothing ties the inputs to the report: it may be destroyed, and it may be whole and another's.
+fn unrelated(facts: &Facts) -> Finding {
+    let key = if facts.inputs.seed { "seed" } else { "key" };
+    let finding =
+        Finding::new(Verdict::Undecided, format!("The report has no more in common with what sealing makes of {key}, message and salt than any other report has."))
+            .because(Seen, format!("{} differ: as many as between two unrelated sealings.", counts(&facts.tried.parts)))
+            .because(Proved(ENCAPS_ONE), format!("The {key}, the message and the salt fix every byte of the sealed report. If they are this report's, it was destroyed."))
+            .because(Open, "Whether they are this report's, or it was not sealed to this key, or of another message and salt, and is whole.");
+    let carried = facts.tried.parts.iter().any(|p| p.name == "salt" && p.same());
+    let finding = finding.because_if(carried, Seen, "The given salt is the one that the report carries: the key or the message is not this report's, or c1 and c2 are destroyed.");
+    noise(facts, finding).because(Next, "Keep the report, and try other keys, messages and salts before it is given up.")
+}
+
+/// What can be the cause where nothing was tied to the report.
+fn causes(facts: &Facts) -> Vec<&'static str> {
+    let (inputs, narrowed) = (facts.inputs, facts.inputs.message && facts.tried.message_back);
+    let mut causes = Vec::new();
+    if !narrowed {
+        causes.push("c1 or c2 is damaged so much that the message does not come back");
+        causes.push("noise spoiled the message");
+        causes.push("the report was not sealed to this key");
+    }
+    causes.push(if inputs.salt { "the given salt is not this report's" } else { "the salt is damaged in more than one byte" });
+    if inputs.message && !narrowed {
+        causes.push("the given message is not this report's");
+    }
+    causes
 }
 
 fn undecided(facts: &Facts) -> Finding {
@@ -184,25 +228,12 @@ fn undecided(facts: &Facts) -> Finding {
         finding = finding.because(Seen, format!("Of {count} messages and salts that differ a little, none is this report's, by a quick test."));
     }
     let narrowed = inputs.message && facts.tried.message_back;
-    let mut causes = Vec::new();
-    if narrowed {
-        finding = finding.because(Likely, "The report opens to the given message, so that c1, c2 and S are whole or nearly so.");
-        causes.push(if inputs.salt { "the given salt is not this report's" } else { "the salt is damaged in more than one byte" });
-    } else {
-        causes.extend(["c1 or c2 is damaged so much that the message does not come back", "noise spoiled the message"]);
-        causes.push(if inputs.salt { "the given salt is not this report's" } else { "the salt is damaged in more than one byte" });
-    }
-    if other_key(facts) {
-        causes.push("the seed does not belong to the secret key: it makes a wholly different key");
-    } else if !inputs.seed {
-        causes.push("the secret key file is damaged, or the report was not sealed to this key");
-    }
-    finding = finding
+    finding = finding.because_if(narrowed, Likely, "The report opens to the given message, so that c1, c2 and S are whole or nearly so.");
+    let missing: Vec<&str> = [(inputs.message, "--message"), (inputs.salt, "--salt")].iter().filter(|(given, _)| !given).map(|(_, flag)| *flag).collect();
+    finding
         .because(Proved(ACCEPTED), "Under a key that holds its own hash such bytes are not accepted: `frodo open` gives a secret made of them and the key's s.")
-        .because(Open, format!("Which of these it is: {}.", causes.join("; ")));
-    let missing: Vec<&str> =
-        [(inputs.seed, "--seed"), (inputs.message, "--message"), (inputs.salt, "--salt")].iter().filter(|(given, _)| !given).map(|(_, f)| *f).collect();
-    finding.because_if(!missing.is_empty(), Next, format!("{} would decide it.", missing.join(", ")))
+        .because(Open, format!("Which of these it is: {}.", causes(facts).join("; ")))
+        .because_if(!missing.is_empty(), Next, format!("{} of the sealing would decide it.", missing.join(", ")))
 }
 
 /// Facts that a theorem rules out.
@@ -213,45 +244,57 @@ fn contradiction() -> Finding {
         .because(Next, "Run it again, on another machine.")
 }
 
-/// What the seed tells of the secret key file.
-fn key_file(facts: &Facts, finding: Finding) -> Finding {
-    let Some(parts) = facts.key_file.as_ref().filter(|parts| parts.iter().any(|p| p.differ > 0)) else {
-        return finding.because_if(facts.key_file.is_some(), Seen, "The secret key file is, in every byte, the key that the seed makes.");
-    };
-    let what = if other_key(facts) { "The secret key file is of another key than the seed's" } else { "The secret key file is damaged" };
-    let opens = if facts.file_opens { "it opens this report all the same" } else { "it does not open this report to its secret" };
-    let status = if finding.verdict == Verdict::Intact { Status::KeyDamaged } else { finding.status };
-    let text = format!("{what}: it differs from the seed's key in {}; {opens}. The verdict rests on the seed's key.", counts(parts));
-    Finding { status, ..finding.because(Seen, text).because(Next, "`frodo keygen --seed` makes the key file again.") }
-}
-
 #[cfg(test)]
 mod tests {
     use super::super::facts::{Inputs, Tried};
     use super::super::finding::{Theorem, THEOREMS};
     use super::*;
+    use crate::keyfile::KeyCheck;
+    use crate::sets;
     use stroupadal::Margin;
 
     const KEPT: Option<Margin> = Some(Margin { size: 200, ratio: 200.0 / 2048.0, kept: true });
     const LOST: Option<Margin> = Some(Margin { size: 3000, ratio: 3000.0 / 2048.0, kept: false });
     const ALL: Inputs = Inputs { seed: true, message: true, salt: true };
+    const WHOLE: KeyCheck = KeyCheck { pkh_fits: true, s_beyond: 0, off: [0; 8], rows_off: 0, bound: 12, rows: 640 };
+    const NO_PKH: KeyCheck = KeyCheck { pkh_fits: false, ..WHOLE };
+    const BAD_S: KeyCheck = KeyCheck { off: [0, 639, 0, 0, 0, 0, 0, 0], ..WHOLE };
+    const NO_B: KeyCheck = KeyCheck { pkh_fits: false, off: [640; 8], ..WHOLE };
 
     fn part(name: &'static str, bytes: usize, differ: usize) -> Part {
-        Part { name, bytes, differ, first: vec![] }
+        Part { name, bytes, differ, missing: 0, first: vec![] }
+    }
+
+    fn verdict(facts: &Facts) -> Finding {
+        judge(&sets::all()[0], facts)
     }
 
     /// A report that is in every byte what sealing makes, judged by the secret key alone.
     fn facts() -> Facts {
         let parts = vec![part("c1", 1000, 0), part("c2", 100, 0), part("salt", 64, 0)];
         let tried = Tried { message: Message::Opened, salt: Salt::Carried, parts, message_back: true, secret_back: true, opens_message: true, opens_secret: true };
-        Facts { inputs: Inputs::default(), key_file: None, file_opens: true, tried, own: None, margin: None, searched: None }
+        let (found, expected, check) = (9752, 9752, Some(WHOLE));
+        Facts { inputs: Inputs::default(), found, expected, check, key_file: None, file_opens: true, tried, without: None, margin: None, searched: None }
     }
 
     fn with_seed() -> Facts {
         let mut f = facts();
         f.inputs = ALL;
-        f.key_file = Some(vec![part("s", 32, 0), part("B", 100, 0), part("S", 100, 0)]);
+        f.key_file = Some(key_parts([0, 0, 0, 0, 0]));
         (f.tried.message, f.tried.salt, f.margin) = (Message::Given, Salt::Given, KEPT);
+        f
+    }
+
+    /// How a key file compares with the seed's key: differing bytes of s, seedA, B, S and pkh.
+    fn key_parts([s, seed_a, b, s_matrix, pkh]: [usize; 5]) -> Vec<Part> {
+        vec![part("s", 16, s), part("seedA", 16, seed_a), part("B", 9600, b), part("S", 10240, s_matrix), part("pkh", 16, pkh)]
+    }
+
+    const ANOTHER: [usize; 5] = [16, 16, 9560, 7000, 16];
+
+    /// No more of the report agrees than chance gives.
+    fn unrelated_to(mut f: Facts) -> Facts {
+        (f.tried.parts[0].differ, f.tried.parts[1].differ, f.tried.message_back, f.tried.secret_back, f.file_opens) = (996, 100, false, false, false);
         f
     }
 
@@ -263,12 +306,16 @@ mod tests {
         finding.reasons.iter().any(|(w, text)| *w == weight && text.contains(words))
     }
 
+    fn first(finding: &Finding, words: &str) -> bool {
+        finding.reasons[0].1.contains(words)
+    }
+
     #[test]
     fn intact() {
-        let alone = judge(&facts());
+        let alone = verdict(&facts());
         assert!(alone.verdict == Verdict::Intact && alone.status == Status::Done && alone.known && cites(&alone, ACCEPTED));
         assert!(says(&alone, Likely, "the report that was sent"));
-        let decided = judge(&with_seed());
+        let decided = verdict(&with_seed());
         assert!(decided.status == Status::Done && cites(&decided, THIRD_DEMAND) && cites(&decided, KEPT_BACK));
         assert!(!decided.reasons.iter().any(|(w, _)| *w == Likely), "with all inputs nothing is left to chance");
     }
@@ -277,16 +324,21 @@ mod tests {
     fn spoiled_by_noise() {
         let mut f = with_seed();
         (f.tried.message_back, f.tried.secret_back, f.tried.opens_message, f.tried.opens_secret, f.margin) = (false, false, false, false, LOST);
-        let finding = judge(&f);
+        let finding = verdict(&f);
         assert!(finding.verdict == Verdict::Spoiled && finding.status == Status::Spoiled && finding.known && cites(&finding, THIRD_DEMAND));
         assert!(says(&finding, Seen, "lost"));
-        // the same without the seed: the key file's S may be the cause
+        // the same without the seed: the key file's S fits its public key, so that it is not the cause
         (f.inputs.seed, f.key_file, f.margin) = (false, None, None);
-        let finding = judge(&f);
-        assert!(finding.verdict == Verdict::Undecided && finding.known && says(&finding, Next, "--seed decides it"));
+        let finding = verdict(&f);
+        assert!(finding.verdict == Verdict::Spoiled && finding.known && says(&finding, Likely, "as it was generated"));
+        // or does not fit it: the report is as it was sealed, and the key file is not
+        f.check = Some(BAD_S);
+        let finding = verdict(&f);
+        assert!(finding.verdict == Verdict::Intact && finding.status == Status::KeyDamaged && finding.known && first(&finding, "S, in column 1"));
+        assert!(says(&finding, Next, "--seed decides that") && says(&finding, Open, "noise"));
         // found by the search, with the seed: decided again
-        (f.inputs, f.tried.message, f.tried.salt, f.margin) = (Inputs { seed: true, ..Inputs::default() }, Message::Group(9), Salt::Carried, LOST);
-        let finding = judge(&f);
+        (f.inputs, f.tried.message, f.tried.salt, f.margin) = (Inputs { seed: true, ..Inputs::default() }, Message::Groups(9, 1), Salt::Carried, LOST);
+        let finding = verdict(&f);
         assert!(finding.status == Status::Spoiled && says(&finding, Seen, "row 1, column 1"));
     }
 
@@ -294,10 +346,10 @@ mod tests {
     fn what_a_theorem_rules_out_is_not_believed() {
         let mut f = with_seed();
         (f.tried.message_back, f.tried.secret_back) = (false, false);
-        assert!(judge(&f).headline.contains("contradicts a theorem"), "kept, and the message did not come back");
+        assert!(verdict(&f).headline.contains("contradicts a theorem"), "kept, and the message did not come back");
         let mut f = with_seed();
         f.tried.secret_back = false;
-        let finding = judge(&f);
+        let finding = verdict(&f);
         assert!(finding.headline.contains("contradicts a theorem") && finding.status == Status::Undecided && !finding.known);
     }
 
@@ -305,60 +357,115 @@ mod tests {
     fn damaged() {
         let mut f = facts();
         (f.tried.parts[0].differ, f.tried.secret_back) = (3, false);
-        let finding = judge(&f);
+        let finding = verdict(&f);
         assert!(finding.verdict == Verdict::Damaged && finding.known && cites(&finding, RESEALED));
         assert!(finding.headline.contains("3 of 1000 bytes of c1") && says(&finding, Likely, "1097 of 1100"));
-        f.tried.opens_secret = false;
-        assert!(cites(&judge(&f), KEY_PASSES), "the key file is damaged as well");
-        f.tried.opens_message = false;
-        assert!(says(&judge(&f), Open, "--seed decides"));
+        (f.tried.opens_secret, f.check) = (false, Some(NO_PKH));
+        assert!(cites(&verdict(&f), KEY_PASSES) && first(&verdict(&f), "pkh"), "the key file is damaged as well");
+        (f.tried.opens_message, f.check) = (false, Some(BAD_S));
+        assert!(says(&verdict(&f), Seen, "S in the secret key file is damaged as well"));
+        f.check = Some(WHOLE);
+        assert!(says(&verdict(&f), Likely, "noise spoils it as well"));
         let mut f = with_seed();
         f.tried.parts[2].differ = 2;
-        let finding = judge(&f);
+        let finding = verdict(&f);
         assert!(finding.status == Status::Damaged && cites(&finding, ENCAPS_ONE) && cites(&finding, KEPT_BACK) && !cites(&finding, RESEALED));
         f.margin = LOST;
-        assert!(says(&judge(&f), Seen, "undamaged, too"));
+        assert!(says(&verdict(&f), Seen, "undamaged, too"));
+        // nearly all of it is lost, and what is left is still no chance
+        f.tried.parts[0].differ = 950;
+        assert!(verdict(&f).status == Status::Damaged && verdict(&f).known);
     }
 
     #[test]
-    fn a_key_file_that_is_not_the_seed_s() {
+    fn a_key_file_that_is_damaged() {
         let mut f = facts();
-        f.tried.secret_back = false;
-        let finding = judge(&f);
+        (f.tried.secret_back, f.check) = (false, Some(NO_PKH));
+        let finding = verdict(&f);
         assert!(finding.verdict == Verdict::Intact && finding.status == Status::KeyDamaged && finding.known && cites(&finding, KEY_PASSES));
         let mut f = with_seed();
-        f.key_file.as_mut().unwrap()[2].differ = 2;
-        let finding = judge(&f);
-        assert!(finding.verdict == Verdict::Intact && finding.status == Status::KeyDamaged && says(&finding, Seen, "2 of 100 bytes of S"));
+        (f.check, f.key_file) = (Some(BAD_S), Some(key_parts([0, 0, 0, 2, 0])));
+        let finding = verdict(&f);
+        assert!(finding.verdict == Verdict::Intact && finding.status == Status::KeyDamaged && says(&finding, Seen, "2 of 10240 bytes of S"));
+        // B lost, and all else there: damaged, not another's
+        (f.check, f.key_file) = (Some(NO_B), Some(key_parts([0, 0, 9600, 0, 0])));
+        assert!(verdict(&f).status == Status::KeyDamaged && first(&verdict(&f), "The secret key file is damaged"));
+        let mut f = unrelated_to(facts());
+        f.check = Some(NO_B);
+        let finding = verdict(&f);
+        assert!(
+            finding.status == Status::Undecided && finding.headline.starts_with("The secret key file is damaged") && !says(&finding, Open, "was not sealed to this key")
+        );
+    }
+
+    #[test]
+    fn a_seed_that_differs() {
+        // in s alone nothing tells whose is right, and the report is intact
+        let mut f = with_seed();
+        f.key_file = Some(key_parts([1, 0, 0, 0, 0]));
+        assert!(verdict(&f).status == Status::Done && says(&verdict(&f), Seen, "Nothing tells which of the two"));
+        // of another key, while the report is the file's; or damaged, in what S is drawn from
+        for (differing, words) in [(ANOTHER, "The seed is of another key"), ([0, 0, 9560, 7000, 16], "The seed is damaged")] {
+            let mut f = facts();
+            f.key_file = Some(key_parts(differing));
+            let finding = verdict(&f);
+            assert!(finding.status == Status::Done && first(&finding, words) && says(&finding, Next, "Keep the secret key file"));
+            assert!(!says(&finding, Next, "makes the key again"), "a whole key file is not to be made again");
+        }
+        // the report is the seed's, and the file another whole key
+        let mut f = with_seed();
+        (f.key_file, f.file_opens) = (Some(key_parts(ANOTHER)), false);
+        let finding = verdict(&f);
+        assert!(finding.status == Status::KeyDamaged && first(&finding, "whole and of another key") && says(&finding, Next, "under a new name"));
+        // neither
+        let finding = verdict(&unrelated_to(f));
+        assert!(finding.status == Status::Undecided && first(&finding, "wholly different keys") && says(&finding, Next, "replace neither"));
     }
 
     #[test]
     fn far_from_every_sealing() {
-        let mut f = facts();
-        (f.tried.parts[0].differ, f.tried.secret_back, f.searched) = (996, false, Some(512));
-        let finding = judge(&f);
-        assert!(finding.verdict == Verdict::Undecided && !finding.known && cites(&finding, ACCEPTED));
-        assert!(says(&finding, Seen, "Of 512 messages and salts") && says(&finding, Next, "--seed, --message, --salt would decide it"));
+        let mut f = unrelated_to(facts());
+        f.searched = Some(512);
+        let finding = verdict(&f);
+        assert!(finding.verdict == Verdict::Undecided && !finding.known && cites(&finding, ACCEPTED) && says(&finding, Open, "not sealed to this key"));
+        assert!(says(&finding, Seen, "Of 512 messages and salts") && says(&finding, Next, "--message, --salt of the sealing would decide it"));
         (f.inputs.message, f.tried.message) = (true, Message::Given);
-        assert!(says(&judge(&f), Open, "the salt is damaged in more than one byte"));
-        f.own = Some(Closeness::Same);
-        assert!(judge(&f).headline.contains("not of the message and salt that were given"));
+        assert!(says(&verdict(&f), Open, "the salt is damaged in more than one byte"));
+        f.without = Some(WithoutInputs { message: true, salt: false, closeness: Closeness::Same });
+        assert!(verdict(&f).headline.contains("in every byte a sealing to this key, but not of the message") && says(&verdict(&f), Next, "Without --message it"));
 
-        let mut f = with_seed();
-        (f.tried.parts[0].differ, f.tried.message_back, f.own) = (996, false, Some(Closeness::Far));
-        let finding = judge(&f);
-        assert!(finding.verdict == Verdict::Damaged && !finding.known && cites(&finding, ENCAPS_ONE) && cites(&finding, KEPT_BACK));
-        f.key_file.as_mut().unwrap()[1].differ = 99;
-        let finding = judge(&f);
-        assert!(finding.verdict == Verdict::Undecided && says(&finding, Open, "wholly different key"));
+        // nothing ties seed, message and salt to the report: it may be whole, and another's
+        let finding = verdict(&unrelated_to(with_seed()));
+        assert!(finding.verdict == Verdict::Undecided && !finding.known && cites(&finding, ENCAPS_ONE) && cites(&finding, KEPT_BACK));
+        assert!(says(&finding, Open, "not sealed to this key") && says(&finding, Next, "Keep the report"));
     }
 
     #[test]
     fn another_length() {
-        let [one, two, _] = sets::all();
-        let finding = wrong_length(&one, 9751);
-        assert!(finding.status == Status::Damaged && finding.headline.contains("9751 bytes") && finding.headline.contains("has 9752"));
-        assert!(says(&wrong_length(&one, two.lengths.ciphertext), Seen, "a report of set 2"));
+        let of = |found: usize| verdict(&Facts { found, ..unrelated_to(facts()) });
+        let short = of(9751);
+        assert!(short.status == Status::Damaged && short.headline.contains("9751 bytes") && short.headline.contains("has 9752") && !short.known);
+        assert!(of(0).status == Status::Damaged && says(&of(0), Next, "Get the report again"));
+        for (length, words) in [
+            (15792, "a report of set 2"),
+            (9720, "a report without salt, of the sizes of set 1"),
+            (15793, "set 2 and 1 bytes more"),
+            (9753, "set 1 and 1 bytes more"),
+            (31584, "set 2, 2 times"),
+        ] {
+            let finding = of(length);
+            assert!(finding.status == Status::Undecided && finding.headline.contains(words), "{length}: {}", finding.headline);
+            assert!(says(&finding, Next, "Keep it") && !says(&finding, Next, "report again"), "it may be whole");
+        }
+        let longer = |mut f: Facts| {
+            f.found = 2 * f.expected;
+            verdict(&f)
+        };
+        let finding = longer(facts());
+        assert!(finding.status == Status::Damaged && finding.known && finding.headline.contains("9752 bytes stand behind it") && finding.headline.contains("2 times"));
+        let mut f = facts();
+        (f.found, f.tried.parts[2].missing) = (9751, 1);
+        assert!(verdict(&f).status == Status::Damaged && verdict(&f).known && verdict(&f).headline.contains("1 bytes are missing"));
     }
 
     /// Every theorem that a verdict cites stands, by that name, in the file that it names.

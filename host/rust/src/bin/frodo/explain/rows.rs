@@ -1,18 +1,16 @@
-//! Damage to c1 and c2 that spoils the message: which messages the report would open to if two neighbouring bytes in a row of c1, or of c2, were others.
+//! Damage to c1 and c2 that spoils the message: which messages the report would open to if some bytes of a row of c1, or of c2, were others.
 //!
 //! C - B'*S is the encoded message plus noise that is small beside h, so that each of its 64 entries stands near a multiple of 2h. Damage in row i of c1 or c2 moves
 //! the entries of row i alone. Where rows stand off, every change of two neighbouring bytes that brings all entries of a row back is a guess, the nearest one first.
-//! Where none does, every change of one byte that moves entries from one multiple to another is. Guesses need no trust: each is sealed again and compared.
+//! Where none does, every change of one byte that moves entries from one multiple to another is. One row that stands off is tried further: all that its groups can be,
+//! where these are few, and else what a change of four neighbouring bytes makes of them. Guesses need no trust: each is sealed again and compared.
+use super::burst::Burst;
+use super::matrix::{stored_s, word};
 use crate::sets::Set;
 use std::collections::HashSet;
 
 /// How many combinations of guesses are given at most where rows stand off.
 const MOST: usize = 20_000;
-
-/// Word `index` of bytes that hold words of d bits, highest bit first; 0 behind their end.
-pub fn word(bytes: &[u8], d: usize, index: usize) -> i32 {
-    (index * d..(index + 1) * d).fold(0, |word, bit| word << 1 | bytes.get(bit / 8).map_or(0, |byte| i32::from(byte >> (7 - bit % 8) & 1)))
-}
 
 /// Two neighbouring bytes of a row, and what a change of them does to the row's entries.
 struct Window {
@@ -24,8 +22,11 @@ struct Window {
     factors: [[i32; 8]; 2],
 }
 
+/// Rows have at most so many bits where all that their groups can be is tried.
+const ALL_BITS: usize = 16;
+
 /// C - B'*S of a report, and what it was made of.
-struct Opening<'a> {
+pub struct Opening<'a> {
     set: &'a Set,
     c1: &'a [u8],
     c2: &'a [u8],
@@ -38,12 +39,10 @@ struct Opening<'a> {
 type Guess = (i32, [u8; 8]);
 
 impl<'a> Opening<'a> {
-    fn new(set: &'a Set, secret: &[u8], report: &'a [u8]) -> Self {
+    pub fn new(set: &'a Set, secret: &[u8], report: &'a [u8]) -> Self {
         let (parts, d) = (set.sealed_parts(), set.log_q);
         let (c1, c2) = (&report[parts[0].1.clone()], &report[parts[1].1.clone()]);
-        let stored = &secret[set.secret_parts()[3].1.clone()];
-        let s_at = |k: usize, j: usize| i32::from(i16::from_le_bytes([stored[2 * (j * set.n + k)], stored[2 * (j * set.n + k) + 1]]));
-        let s: Vec<[i32; 8]> = (0..set.n).map(|k| std::array::from_fn(|j| s_at(k, j))).collect();
+        let s = stored_s(set, secret);
         let mut entries: [[i32; 8]; 8] = std::array::from_fn(|i| std::array::from_fn(|j| word(c2, d, 8 * i + j)));
         for (i, row) in entries.iter_mut().enumerate() {
             for (k, s_row) in s.iter().enumerate() {
@@ -64,9 +63,21 @@ impl<'a> Opening<'a> {
         ((entry.wrapping_add(self.half()) & (2 * self.half() - 1)) - self.half()).abs()
     }
 
-    /// The most that an entry may stand off, a quarter of h. Undamaged noise that is greater makes the guesses fail, no more.
+    /// The most that an entry may stand off: of 64 entries noise leaves one beyond in one report of 2000. That makes the guesses fail, no more.
     fn limit(&self) -> i32 {
-        self.half() / 4
+        (4.5 * self.set.noise_spread()) as i32
+    }
+
+    /// The entries of the 64 that stand off.
+    pub fn entries_off(&self) -> Vec<usize> {
+        (0..64).filter(|&at| self.off(self.entries[at / 8][at % 8]) > self.limit()).collect()
+    }
+
+    /// The rows that have such an entry.
+    pub fn rows_off(&self) -> Vec<usize> {
+        let mut rows: Vec<usize> = self.entries_off().iter().map(|at| at / 8).collect();
+        rows.dedup();
+        rows
     }
 
     /// The groups of a row of entries, unless one of them stands off.
@@ -93,6 +104,21 @@ impl<'a> Opening<'a> {
         let c1 = (0..n * d / 8 - 1).map(move |at| window(self.c1, i * n, at, &|k| self.s.get(k).copied().unwrap_or([0; 8])));
         let c2 = (0..d - 1).map(move |at| window(self.c2, i * 8, at, &|k| std::array::from_fn(|j| if j == k { -1 } else { 0 })));
         c1.chain(c2)
+    }
+
+    /// The groups of row i as it stands.
+    fn groups(&self, i: usize) -> [u8; 8] {
+        self.entries[i].map(|entry| ((entry.wrapping_add(self.half()) >> (self.half().trailing_zeros() + 1)) & ((1 << self.set.bits) - 1)) as u8)
+    }
+
+    /// What four neighbouring bytes of row i of c1 can have made of its groups, where words have two bytes.
+    fn burst(&self, i: usize) -> Vec<[u8; 8]> {
+        let Set { n, log_q, bits, .. } = *self.set;
+        if log_q != 16 {
+            return Vec::new();
+        }
+        let words: Vec<i32> = (0..n).map(|k| word(self.c1, log_q, i * n + k)).collect();
+        Burst { entries: self.entries[i], words: &words, s: &self.s, step: 2 * self.half(), bits, spread: self.set.noise_spread() }.guesses()
     }
 
     /// The guess that row i makes as it stands.
@@ -138,17 +164,38 @@ fn message(set: &Set, rows: &[[u8; 8]]) -> Vec<u8> {
     bytes
 }
 
-/// How many rows were put right, and the messages that the report then opens to: the best guesses first. Empty where too many rows stand off, or one cannot be
-/// brought back.
-pub fn messages(set: &Set, secret: &[u8], report: &[u8]) -> (usize, Vec<Vec<u8>>) {
-    let opening = Opening::new(set, secret, report);
+/// The messages that the report opens to with one byte of a row changed, or two in each of up to four rows that stand off, the best guesses first. Empty where too many
+/// rows stand off, or one cannot be brought back.
+pub fn messages(opening: &Opening<'_>) -> Vec<Vec<u8>> {
     let as_is: Vec<Option<Guess>> = (0..8).map(|i| opening.as_is(i)).collect();
     let off = as_is.iter().filter(|guess| guess.is_none()).count();
     match off {
-        0 => (1, unseen(&opening, &as_is.iter().flatten().map(|(_, groups)| *groups).collect::<Vec<_>>())),
-        1..=4 => (off, combined(&opening, &as_is, off)),
-        _ => (off, Vec::new()),
+        0 => unseen(opening, &as_is.iter().flatten().map(|(_, groups)| *groups).collect::<Vec<_>>()),
+        1..=4 => combined(opening, &as_is, off),
+        _ => Vec::new(),
     }
+}
+
+/// The messages that the report opens to where one row holds other groups: the row that stands off or, where none does and the groups of a row are few, any.
+pub fn in_one_row<'a>(opening: &'a Opening<'a>) -> Box<dyn Iterator<Item = Vec<u8>> + 'a> {
+    let few = 8 * opening.set.bits <= ALL_BITS;
+    let rows = match opening.rows_off()[..] {
+        [row] => vec![row],
+        [] if few => (0..8).collect(),
+        _ => vec![],
+    };
+    let whole: Vec<[u8; 8]> = (0..8).map(|i| opening.groups(i)).collect();
+    let put = move |row: usize, groups: [u8; 8]| {
+        let mut rows = whole.clone();
+        rows[row] = groups;
+        message(opening.set, &rows)
+    };
+    if few {
+        let (bits, count) = (opening.set.bits, 1_u32 << (8 * opening.set.bits));
+        let groups = move |value: u32| std::array::from_fn(|j| (value >> (bits * j)) as u8 & ((1 << bits) - 1));
+        return Box::new(rows.into_iter().flat_map(move |row| (0..count).map(move |value| (row, groups(value)))).map(move |(row, groups)| put(row, groups)));
+    }
+    Box::new(rows.into_iter().flat_map(move |row| opening.burst(row).into_iter().map(move |groups| (row, groups))).map(move |(row, groups)| put(row, groups)))
 }
 
 /// Every message that one changed byte can have made of another without a trace but the message.
@@ -191,10 +238,14 @@ mod tests {
             let (seed, sent, salt) = (bytes(1, set.lengths.key_seed), bytes(2, set.lengths.message), bytes(3, set.lengths.salt));
             let keys = kem.keys(&seed).unwrap();
             let whole = kem.seal(&keys.public, &sent, &salt).unwrap().report;
-            assert!(!messages(&set, &keys.secret, &whole).1.contains(&sent), "set {}: nothing stands off", set.number);
+            let messages = |report: &[u8]| {
+                let opening = Opening::new(&set, &keys.secret, report);
+                (opening.rows_off().len(), messages(&opening))
+            };
+            assert!(!messages(&whole).1.contains(&sent), "set {}: nothing stands off", set.number);
             let mut top = whole.clone();
             top[set.n * set.log_q / 8] ^= 0x80;
-            assert!(messages(&set, &keys.secret, &top).1.contains(&sent), "set {}: the highest bit of row 1's first word", set.number);
+            assert!(messages(&top).1.contains(&sent), "set {}: the highest bit of row 1's first word", set.number);
             let mut both = whole.clone();
             // from byte 100 on in c1's first row, and in c2's last row: the first byte whose damage spoils the message
             for from in [100, set.salt_in_sealed().start - 15] {
@@ -202,8 +253,27 @@ mod tests {
                 let at = (from..).find(|&at| kem.open(&keys.secret, &damaged(at)).unwrap().message != sent).unwrap();
                 both[at] ^= 0x5b;
             }
-            let (off, guesses) = messages(&set, &keys.secret, &both);
+            let (off, guesses) = messages(&both);
             assert!(off == 2 && guesses.contains(&sent), "set {}: {off} rows off, {} guesses", set.number, guesses.len());
+        }
+    }
+    #[test]
+    fn a_burst_in_one_row_is_undone() {
+        for set in sets::all() {
+            let mut kem = Kem::new(set);
+            let (seed, sent, salt) = (bytes(4, set.lengths.key_seed), bytes(5, set.lengths.message), bytes(6, set.lengths.salt));
+            let keys = kem.keys(&seed).unwrap();
+            let whole = kem.seal(&keys.public, &sent, &salt).unwrap().report;
+            let row = set.n * set.log_q / 8;
+            // at an even and at an odd place; where all groups of a row are tried, a hundred bytes
+            for at in [2 * row + 300, 5 * row + 411] {
+                let mut damaged = whole.clone();
+                let count = if 8 * set.bits <= ALL_BITS { 100 } else { 4 };
+                damaged[at..at + count].iter_mut().zip([0x5b, 0xc3, 0x96, 0xe7].iter().cycle()).for_each(|(byte, bits)| *byte ^= bits);
+                let opening = Opening::new(&set, &keys.secret, &damaged);
+                assert_eq!(opening.rows_off(), [at / row], "set {}", set.number);
+                assert!(in_one_row(&opening).any(|message| message == sent), "set {}, from {at} on", set.number);
+            }
         }
     }
 }

@@ -3,6 +3,9 @@
 use super::facts::{Message, Salt};
 use crate::sets::Set;
 
+/// How many messages that differ in neighbouring groups are tried at most.
+const MOST_GROUPS: usize = 1 << 19;
+
 /// A message and a salt to try.
 #[derive(Clone, Debug, PartialEq, Eq)]
 pub struct Candidate {
@@ -19,17 +22,36 @@ pub fn salts(from: &Candidate) -> impl Iterator<Item = Candidate> + '_ {
     })
 }
 
-/// Every message that differs in one group of B bits: what damage to one word of c2, or one spoiled entry, makes of it.
-pub fn messages<'a>(set: &Set, from: &'a Candidate) -> impl Iterator<Item = Candidate> + 'a {
+/// Every salt that differs in its last bytes alone, which a report that ends too soon lacks.
+pub fn endings(from: &Candidate, count: usize) -> impl Iterator<Item = Candidate> + '_ {
+    (0..1_u32 << (8 * count)).map(move |value| {
+        let mut salt = from.salt.1.clone();
+        let start = salt.len() - count;
+        salt[start..].copy_from_slice(&value.to_be_bytes()[4 - count..]);
+        Candidate { salt: (Salt::End(count), salt), ..from.clone() }
+    })
+}
+
+/// Every message that differs in neighbouring groups of B bits: what damage to neighbouring words of c2, or a spoiled entry, makes of it. Where entries stand off, the groups
+/// are those from `first` to `last` and as many more around them as keep the messages few; else they are any.
+pub fn messages<'a>(set: &Set, from: &'a Candidate, off: &[usize]) -> Box<dyn Iterator<Item = Candidate> + 'a> {
     let bits = set.bits;
-    (0..64).flat_map(move |entry| (1..1_u32 << bits).map(move |change| (entry, change))).map(move |(entry, change)| {
+    let span = off.first().zip(off.last());
+    let starts = move |count: usize| match span {
+        Some((&first, &last)) => ((last + 1).saturating_sub(count)..=first).filter(|start| start + count <= 64).collect::<Vec<_>>(),
+        None => (0..=64 - count).collect(),
+    };
+    let count = (1..=20 / bits).rev().find(|&count| starts(count).len() << (count * bits) <= MOST_GROUPS).unwrap_or(1);
+    let changes = move |start: usize| (1..1_u32 << (count * bits)).map(move |change| (start, change));
+    Box::new(starts(count).into_iter().flat_map(changes).map(move |(start, change)| {
         let mut message = from.message.1.clone();
-        for bit in (0..bits).filter(|bit| change >> bit & 1 == 1) {
-            let at = entry * bits + bit;
+        for bit in (0..count * bits).filter(|bit| change >> bit & 1 == 1) {
+            let at = start * bits + bit;
             message[at / 8] ^= 1 << (at % 8);
         }
-        Candidate { message: (Message::Group(entry), message), ..from.clone() }
-    })
+        let (low, high) = (change.trailing_zeros() as usize / bits, change.ilog2() as usize / bits);
+        Candidate { message: (Message::Groups(start + low, high - low + 1), message), ..from.clone() }
+    }))
 }
 
 #[cfg(test)]
@@ -48,16 +70,25 @@ mod tests {
             let from = start(&set);
             let salts: HashSet<Vec<u8>> = salts(&from).map(|c| c.salt.1).collect();
             assert_eq!(salts.len(), 255 * set.lengths.salt);
-            let messages: HashSet<Vec<u8>> = messages(&set, &from).map(|c| c.message.1).collect();
-            assert_eq!(messages.len(), 64 * ((1 << set.bits) - 1));
-            assert!(!messages.contains(&from.message.1));
+            let differ = |c: &Candidate| (0..8 * c.message.1.len()).filter(|at| (c.message.1[at / 8] ^ from.message.1[at / 8]) >> (at % 8) & 1 == 1).map(|at| at / set.bits).collect();
+            for c in messages(&set, &from, &[]).step_by(997).chain(messages(&set, &from, &[9, 11]).step_by(997)) {
+                let groups: Vec<usize> = differ(&c);
+                assert_eq!(c.message.0, Message::Groups(groups[0], groups[groups.len() - 1] - groups[0] + 1));
+            }
+            let one: HashSet<Vec<u8>> = messages(&set, &from, &[]).filter(|c| matches!(c.message.0, Message::Groups(_, 1))).map(|c| c.message.1).collect();
+            assert_eq!(one.len(), 64 * ((1 << set.bits) - 1));
+            assert!(messages(&set, &from, &[]).count() <= MOST_GROUPS && messages(&set, &from, &[9, 11]).count() <= MOST_GROUPS);
+            assert_eq!(messages(&set, &from, &[0, 63]).count(), 0, "not neighbours");
+            let ends: HashSet<Vec<u8>> = endings(&from, 2).map(|c| c.salt.1).collect();
+            assert!(ends.len() == 65536 && ends.contains(&from.salt.1));
         }
     }
 
     #[test]
     fn a_group_is_b_bits_lowest_first() {
         let set = sets::all()[2];
-        let last = messages(&set, &start(&set)).last().unwrap().message;
-        assert_eq!(last, (Message::Group(63), [vec![0x5a; 31], vec![0xaa]].concat()));
+        let from = start(&set);
+        let last = messages(&set, &from, &[63]).last().unwrap().message;
+        assert_eq!(last, (Message::Groups(60, 4), [vec![0x5a; 30], vec![0xa5; 2]].concat()));
     }
 }

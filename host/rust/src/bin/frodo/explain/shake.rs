@@ -1,4 +1,5 @@
-//! SHAKE for the sieve (FIPS 202 (2015), SHAKE128 and SHAKE256). The proved library shows no SHAKE to its callers; this one decides nothing: what the sieve lets through is sealed again by the library.
+//! SHAKE for the sieve and for the check of a key file (FIPS 202 (2015), SHAKE128 and SHAKE256). The proved library shows no SHAKE to its callers; this one is held against it by a test.
+//! What the sieve lets through is sealed again by the library.
 
 /// The round constants, from the register of rc(t).
 const ROUNDS: [u64; 24] = {
@@ -84,7 +85,7 @@ mod tests {
         for set in sets::all() {
             let keys = Kem::new(set).keys(&vec![7; set.lengths.key_seed]).unwrap();
             let mut pkh = vec![0; set.lengths.shared_secret];
-            shake(if set.number == 1 { 168 } else { 136 }, &keys.public, &mut pkh);
+            shake(set.rate(), &keys.public, &mut pkh);
             assert_eq!(pkh, keys.secret[set.secret_parts()[4].1.clone()], "set {}", set.number);
         }
     }

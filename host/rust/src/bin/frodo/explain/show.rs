@@ -1,6 +1,8 @@
 //! A finding as text and as JSON.
 use super::facts::{Facts, Part};
 use super::finding::{Finding, Verdict, Weight};
+use super::key::{relation, Relation};
+use crate::check::check_json;
 use crate::commands::{margin_json, margin_text};
 use crate::json::Json;
 use crate::sets::Set;
@@ -32,13 +34,16 @@ fn part_line(part: &Part) -> String {
     if part.differ > part.first.len() {
         line += "; ..";
     }
+    if part.missing > 0 {
+        let _ = write!(line, "; {} missing", part.missing);
+    }
     line + "\n"
 }
 
-/// The finding as a reader wants it; `facts` are there where the report has the right length.
-pub fn text(set: &Set, finding: &Finding, facts: Option<&Facts>) -> String {
+/// The finding as a reader wants it.
+pub fn text(set: &Set, finding: &Finding, facts: &Facts) -> String {
     let mut text = format!("verdict: {}\n{}", finding.verdict.name(), wrapped(&finding.headline, 0));
-    if let Some(facts) = facts.filter(|_| finding.verdict == Verdict::Damaged) {
+    if finding.known && finding.verdict == Verdict::Damaged {
         text += "\nwhere the report differs:\n";
         facts.tried.parts.iter().for_each(|part| text += &part_line(part));
     }
@@ -50,7 +55,7 @@ pub fn text(set: &Set, finding: &Finding, facts: Option<&Facts>) -> String {
         };
         let _ = write!(text, "  {:8}{}", weight.name(), wrapped(&cited, 10));
     }
-    if let Some(margin) = facts.and_then(|f| f.margin) {
+    if let Some(margin) = facts.margin {
         let _ = write!(text, "\nmargin:\n{}", margin_text(set, &margin));
     }
     text
@@ -64,6 +69,7 @@ fn part_json(part: &Part) -> Json {
         ("part", Json::text(part.name)),
         ("bytes", Json::Count(part.bytes)),
         ("differ", Json::Count(part.differ)),
+        ("missing", Json::Count(part.missing)),
         ("first", Json::List(part.first.iter().map(place).collect())),
     ])
 }
@@ -81,18 +87,37 @@ fn reason_json((weight, text): &(Weight, String)) -> Json {
     Json::Object(fields)
 }
 
+/// How a seed and the secret key file belong together, in a word.
+fn seed_json(facts: &Facts) -> Json {
+    facts.key_file.as_ref().zip(facts.check.as_ref()).map_or(Json::Null, |(parts, check)| {
+        Json::text(match relation(parts, check) {
+            Relation::Same => "same",
+            Relation::OnlyS => "differs in s",
+            Relation::FileDamaged => "key file damaged",
+            Relation::SeedDamaged => "seed damaged",
+            Relation::Unclear => "unclear",
+            Relation::Other => "another key",
+        })
+    })
+}
+
 /// The finding as a machine wants it.
-pub fn json(set: &Set, finding: &Finding, facts: Option<&Facts>) -> Vec<(&'static str, Json)> {
+pub fn json(set: &Set, finding: &Finding, facts: &Facts) -> Vec<(&'static str, Json)> {
     let list = |parts: &[Part], of: fn(&Part) -> Json| Json::List(parts.iter().map(of).collect());
+    let tied = finding.known && finding.verdict != Verdict::Undecided;
     vec![
         ("set", Json::Count(set.number as usize)),
         ("verdict", Json::text(finding.verdict.name())),
         ("headline", Json::text(&finding.headline)),
         ("known", Json::Bool(finding.known)),
-        ("differences", facts.filter(|_| finding.verdict != Verdict::Undecided).map_or(Json::Null, |f| list(&f.tried.parts, part_json))),
-        ("key_file", facts.and_then(|f| f.key_file.as_ref()).map_or(Json::Null, |parts| list(parts, key_json))),
-        ("margin", facts.and_then(|f| f.margin).map_or(Json::Null, |m| margin_json(set, &m))),
-        ("searched", facts.and_then(|f| f.searched).map_or(Json::Null, Json::Count)),
+        ("report_bytes", Json::Count(facts.found)),
+        ("differences", if tied { list(&facts.tried.parts, part_json) } else { Json::Null }),
+        ("key_check", facts.check.as_ref().map_or(Json::Null, check_json)),
+        ("key_file", facts.key_file.as_ref().map_or(Json::Null, |parts| list(parts, key_json))),
+        ("seed_and_key_file", seed_json(facts)),
+        ("judged_by", Json::text(if facts.inputs.seed { "seed" } else { "key file" })),
+        ("margin", facts.margin.map_or(Json::Null, |m| margin_json(set, &m))),
+        ("searched", facts.searched.map_or(Json::Null, Json::Count)),
         ("reasons", Json::List(finding.reasons.iter().map(reason_json).collect())),
     ]
 }
