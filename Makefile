@@ -126,7 +126,7 @@ seal: $(DIST)/libfrodo_c.a $(DIST)/frodo.h
 shared: $(DIST)/libfrodo_c.a $(DIST)/frodo.h
 	mkdir -p $(BUILD)
 	$(CC) $(CFLAGS) -I$(DIST) examples/c/seal.c -L$(DIST) -lfrodo_c $(LDFLAGS) -Wl,-rpath,$(CURDIR)/$(DIST) -o $(BUILD)/seal-shared
-	readelf -dW $(BUILD)/seal-shared | grep -q 'NEEDED.*libfrodo_c\.so\.0'
+	readelf -dW $(BUILD)/seal-shared | grep -q 'NEEDED.*libfrodo_c\.so\.$(firstword $(subst ., ,$(VERSION)))\]'
 	$(RUN) $(BUILD)/seal-shared
 
 stack: $(BUILD)/stack/stack

@@ -80,7 +80,10 @@ static int write_all(int file, const void *from, size_t bytes) {
     return 0;
 }
 
-/* The handler: nothing here touches the heap. */
+/* The handler: nothing here touches the heap. The library wants a stack that is aligned to 16 bytes: Linux enters a handler so, and some versions of qemu-user do not. */
+#ifdef __x86_64__
+__attribute__((force_align_arg_pointer))
+#endif
 static void seal(int number, siginfo_t *info, void *context) {
     (void)number, (void)context;
     entered_at = (uint32_t)(alternate + alternate_bytes - (uint8_t *)__builtin_frame_address(0));
@@ -164,6 +167,8 @@ static void read_all(uint32_t of_set, const char *name, void *head, size_t head_
     close(from);
 }
 
+static uint8_t sk[43088]; /* the customer's */
+
 /* The dying process, and how it ended. */
 static pid_t start(uint32_t of_set, const char *self, const char *key_file, const char *name, int stack_bytes, int *status) {
     char number[2] = { (char)('0' + of_set), 0 }, bytes[16];
@@ -171,7 +176,10 @@ static pid_t start(uint32_t of_set, const char *self, const char *key_file, cons
     pid_t child = fork();
     if (child == 0) {
         execl(self, self, "die", number, key_file, name, bytes, (char *)NULL);
-        _exit(28);
+        if (errno != ENOEXEC) _exit(28);
+        /* under an emulator, which starts no program of its own processor: this process dies itself, without the secret key */
+        memset(sk, 0, sizeof sk);
+        _exit(die(of_set, key_file, name, (size_t)stack_bytes));
     }
     if (child < 0 || waitpid(child, status, 0) != child) fail(of_set, "no process", errno);
     return child;
@@ -179,7 +187,7 @@ static pid_t start(uint32_t of_set, const char *self, const char *key_file, cons
 
 /* The customer's side: makes a key pair, lets a process die, opens its report. */
 static void whole(uint32_t of_set, const char *self, const char *folder) {
-    static uint8_t seed[112], public_key[21520], sk[43088], cipher[21696], recovered[32], secret[32], text[REPORT], expected[REPORT], damaged[REPORT];
+    static uint8_t seed[112], public_key[21520], cipher[21696], recovered[32], secret[32], text[REPORT], expected[REPORT], damaged[REPORT];
     const uint32_t *l = paper_length[of_set - 1];
     char key_file[4096], name[4096];
     snprintf(key_file, sizeof key_file, "%s/key-%u", folder, of_set);
