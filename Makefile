@@ -10,7 +10,7 @@
 # make installed        installs into a folder of its own, and builds and runs the C example from there by pkg-config, static and shared
 # make demo             a crash report sealed, opened, damaged, explained and repaired by the frodo program
 # make frodo            the program itself, build/rust/release/frodo
-# make cli              the program's commands as a user types them, each with its status and words; then its files and streams
+# make cli              the program's commands as a user types them, each with its status and words; its files and streams; every verdict of explain
 # make stack            the stack that each call takes
 # make signal           a process with a broken heap seals its report in a signal handler; another process opens it
 # make crash            the crash handler of examples/c, as a program would link it: faults of each kind, a second fault, a broken heap
@@ -116,6 +116,7 @@ demo: frodo
 cli: frodo
 	tests/cli/run build/rust/release/frodo
 	tests/cli/files build/rust/release/frodo
+	tests/cli/verdicts build/rust/release/frodo
 
 # The library from C.
 c-tests: seal shared stack signal crash hostile unset
@@ -129,7 +130,7 @@ seal: $(DIST)/libfrodo_c.a $(DIST)/frodo.h
 shared: $(DIST)/libfrodo_c.a $(DIST)/frodo.h
 	mkdir -p $(BUILD)
 	$(CC) $(CFLAGS) -I$(DIST) examples/c/seal.c -L$(DIST) -lfrodo_c $(LDFLAGS) -Wl,-rpath,$(CURDIR)/$(DIST) -o $(BUILD)/seal-shared
-	readelf -dW $(BUILD)/seal-shared | grep -q 'NEEDED.*libfrodo_c\.so\.0'
+	readelf -dW $(BUILD)/seal-shared | grep -q 'NEEDED.*libfrodo_c\.so\.$(firstword $(subst ., ,$(VERSION)))\]'
 	$(RUN) $(BUILD)/seal-shared
 
 stack: $(BUILD)/stack/stack

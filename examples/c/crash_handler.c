@@ -3,7 +3,8 @@
  * What it takes care of:
  *   - The heap may be broken: all memory is static, or mapped when the handler is installed. Everything that the handler calls is safe in a signal handler (signal-safety(7)).
  *   - The stack may have overflowed: the handler runs on an alternate stack above a guard page, which has room for two frames of the kernel's own size for this machine.
- *   - The handler may fault, in `describe` above all, which walks a broken process: it is then entered again, leaves `describe` out and seals a line. A third fault ends it.
+ *   - The handler may fault, in `describe` above all, which walks a broken process: it is then entered again, leaves `describe` out and seals
+ *     a line. Any other fault in the handler ends the process.
  *   - Two threads may fault at once: the first reports, the others wait for the end.
  *   - The process may have forked: message and salt serve one report, so a child draws its own.
  *   - The exit status is to tell the truth: the signal's own action is put back and the signal raised again, whatever became of the report.
@@ -21,7 +22,6 @@
 #include <string.h>
 #include <sys/auxv.h>
 #include <sys/mman.h>
-#include <sys/random.h>
 #include <sys/syscall.h>
 #include <unistd.h>
 
@@ -55,13 +55,15 @@ static atomic_int inside = 0;
 static int draw(void)
 {
     drawn_by = getpid();
-    return syscall(SYS_getrandom, message, (size_t)length.message, 0) == (long)length.message && syscall(SYS_getrandom, salt, (size_t)length.salt, 0) == (long)length.salt ? 0 : -1;
+    if (syscall(SYS_getrandom, message, (size_t)length.message, 0) != (long)length.message)
+        return -1;
+    return syscall(SYS_getrandom, salt, (size_t)length.salt, 0) == (long)length.salt ? 0 : -1;
 }
 
 static uint32_t seal(void)
 {
-    return frodo_encapsulate(set, public_key, length.public_key, message, length.message, salt, length.salt, ciphertext, length.ciphertext, key, length.shared_secret, noise, length.noise_words, work,
-        length.work_words);
+    return frodo_encapsulate(set, public_key, length.public_key, message, length.message, salt, length.salt, ciphertext, length.ciphertext, key, length.shared_secret,
+        noise, length.noise_words, work, length.work_words);
 }
 
 static void wipe(volatile void *at, size_t bytes)
@@ -187,48 +189,36 @@ int crash_handler_thread(void)
     return 0;
 }
 
-/* The set whose public key has this many bytes; 0 where there is none. */
-static uint32_t set_of(size_t public_key_bytes)
-{
-    static const uint32_t known[] = { FRODO640SHAKE_SET, FRODO976SHAKE_SET, FRODO1344SHAKE_SET };
-    for (size_t k = 0; k < sizeof known / sizeof known[0]; k++)
-        if (frodo_lengths(known[k]).public_key == public_key_bytes)
-            return known[k];
-    return 0;
-}
-
+/* The file has to have the set's length: one byte more is asked for. */
 static int read_key(const char *name)
 {
-    uint8_t more;
+    static uint8_t whole[FRODO_MAX_PUBLIC_KEY_LENGTH + 1];
     size_t bytes = 0;
     ssize_t n = 1;
     int file = open(name, O_RDONLY | O_CLOEXEC);
     if (file < 0)
         return -1;
-    while (n > 0 || (n < 0 && errno == EINTR)) {
-        n = bytes < sizeof public_key ? read(file, public_key + bytes, sizeof public_key - bytes) : read(file, &more, 1);
-        if (n > 0 && bytes == sizeof public_key) {
-            bytes++; /* longer than any */
-            break;
-        }
+    while ((n > 0 || (n < 0 && errno == EINTR)) && bytes <= length.public_key) {
+        n = read(file, whole + bytes, length.public_key + 1 - bytes);
         bytes += n > 0 ? (size_t)n : 0;
     }
     close(file);
     if (n < 0)
         return -1;
-    set = set_of(bytes);
-    length = frodo_lengths(set);
-    if (set == 0) {
+    if (bytes != length.public_key) {
         errno = EINVAL;
         return -1;
     }
+    memcpy(public_key, whole, bytes);
     return 0;
 }
 
-int crash_handler_install(const char *public_key_file, int file, crash_cipher *cipher, crash_describe *describe)
+int crash_handler_install(uint32_t set_number, const char *public_key_file, int file, crash_cipher *cipher, crash_describe *describe)
 {
     struct sigaction action;
-    if (cipher == NULL || file < 0) {
+    set = set_number;
+    length = frodo_lengths(set);
+    if (length.public_key == 0 || cipher == NULL || file < 0) {
         errno = EINVAL;
         return -1;
     }

@@ -16,10 +16,10 @@ typedef size_t crash_describe(char *text, size_t room, int number, const siginfo
 
 enum { CRASH_TEXT = 16384, CRASH_ROOM = 64 };
 
-/* Call it once, early, while nothing has gone wrong. Reads the public key (its length tells the set), draws the message and the salt, seals once on trial, and takes the five
- * signals. The report will be written to `file`, which is open for writing: first the ciphertext, of the set's length, then what the cipher made. `describe` may be NULL: then
- * the report is one line. Answers 0, or -1 with errno set (EINVAL: no public key of a set); then no signal is taken. */
-int crash_handler_install(const char *public_key, int file, crash_cipher *cipher, crash_describe *describe);
+/* Call it once, early, while nothing has gone wrong. Reads the set's public key from a file, draws the message and the salt, seals once on trial, and takes the five
+ * signals. The report will be written to `file`, which is open for writing: first the ciphertext, of the set's length, then what the cipher made. `describe` may be
+ * NULL: then the report is one line. Answers 0, or -1 with errno set (EINVAL: no such set, or no public key of it); then no signal is taken. */
+int crash_handler_install(uint32_t set, const char *public_key_file, int file, crash_cipher *cipher, crash_describe *describe);
 
 /* An alternate stack for the thread that calls it: without one a thread whose own stack has overflowed cannot report. crash_handler_install does it for its caller; every
  * other thread calls it when it starts. Answers 0, or -1 with errno set. */

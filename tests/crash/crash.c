@@ -2,7 +2,7 @@
  * they left. Each has to die of its own signal and to leave exactly one report.
  *
  *   crash                              the whole test
- *   crash die HOW KEY-FILE REPORT      a dying process
+ *   crash die HOW SET KEY-FILE REPORT  a dying process
  *
  * What stands in for the caller's cipher is the key repeated and XORed over the text: it shows that both sides hold the same key, and is no cipher to use. */
 #include <errno.h>
@@ -150,7 +150,7 @@ static void forked(int file, const char *report)
     *nowhere = 1;
 }
 
-static int die(const char *how, const char *key_file, const char *report)
+static int die(const char *how, uint32_t of_set, const char *key_file, const char *report)
 {
     struct rlimit none = { 0, 0 }, small = { 1 << 20, 1 << 20 };
     int file = open(report, O_WRONLY | O_CREAT | O_TRUNC | O_APPEND, 0600), ends[2];
@@ -164,7 +164,10 @@ static int die(const char *how, const char *key_file, const char *report)
     }
     crash_cipher *cipher = strcmp(how, "no cipher") == 0 ? cipher_that_fails : strcmp(how, "fault in the cipher") == 0 ? cipher_that_faults : stand_in_cipher;
     crash_describe *words = strcmp(how, "fault in describe") == 0 ? describe_that_faults : strcmp(how, "one line") == 0 ? NULL : describe;
-    if (file < 0 || crash_handler_install(key_file, file, cipher, words) != 0)
+    /* what cannot be right is refused first, and takes nothing */
+    if (crash_handler_install(0, key_file, file, cipher, words) == 0 || crash_handler_install(of_set % 3 + 1, key_file, file, cipher, words) == 0)
+        return 32;
+    if (file < 0 || crash_handler_install(of_set, key_file, file, cipher, words) != 0)
         return 28;
     if (strcmp(how, "a thread") == 0)
         with_threads(1, 0);
@@ -242,19 +245,20 @@ enum { NO_REPORT, REPORT, LINE, AGAIN, TWO };
 
 static void dies(const char *how, const char *folder, int number, int leaves)
 {
-    char key_file[4096], name[4096];
+    char key_file[4096], name[4096], number_of_set[16];
     int status = 0;
+    snprintf(number_of_set, sizeof number_of_set, "%u", (unsigned)set);
     snprintf(key_file, sizeof key_file, "%s/key", folder);
     snprintf(name, sizeof name, "%s/report", folder);
     make_key(key_file);
     pid_t child = fork();
     if (child == 0) {
-        execl("/proc/self/exe", "crash", "die", how, key_file, name, (char *)NULL);
+        execl("/proc/self/exe", "crash", "die", how, number_of_set, key_file, name, (char *)NULL);
         if (errno != ENOEXEC)
             _exit(30);
         /* under an emulator, which starts no program of its own processor: this process dies itself, without what only the customer has */
         memset(seed, 0, sizeof seed), memset(sk, 0, sizeof sk);
-        _exit(die(how, key_file, name));
+        _exit(die(how, set, key_file, name));
     }
     if (child < 0 || waitpid(child, &status, 0) != child)
         fail(how, "no process", errno);
@@ -316,8 +320,8 @@ static void whole(uint32_t of_set, const char *folder)
 
 int main(int count, char **words)
 {
-    if (count == 5 && strcmp(words[1], "die") == 0)
-        return die(words[2], words[3], words[4]);
+    if (count == 6 && strcmp(words[1], "die") == 0)
+        return die(words[2], (uint32_t)strtoul(words[3], NULL, 10), words[4], words[5]);
     char folder[] = "/tmp/frodo-crash-XXXXXX";
     if (mkdtemp(folder) == NULL)
         fail("start", "no folder", errno);
