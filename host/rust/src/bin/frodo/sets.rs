@@ -227,7 +227,7 @@ mod tests {
         }
         assert_eq!(all().map(|s| s.half()), [4096, 4096, 2048]);
         assert_eq!(all().map(|s| s.noise_bound()), [12, 10, 6]);
-        assert_eq!(all().map(|s| s.noise_spread().round() as u32), [281, 234, 102], "2.8, 2.3 and 1.4 squared, times the root of 2n");
+        assert_eq!(all().map(|s| s.noise_spread().round() as u32), [283, 237, 106], "of 2.8, 2.3 and 1.4, drawn as whole numbers");
         assert_eq!(report_lengths().into_keys().collect::<Vec<_>>(), [9720, 9752, 15744, 15792, 21632, 21696]);
     }
 

@@ -1,6 +1,6 @@
-//! Damage to four neighbouring bytes of a row of c1, where words have 16 bits: which rows of groups it can have made of another.
+//! Damage to three or four neighbouring bytes of a row of c1, where words have 16 bits: which rows of groups it can have made of another.
 //!
-//! The bytes are two whole words, or a low half, a whole word and a high half. A change of x in word k moves entry c of the row by x * S[k][c], and what is left is noise, near
+//! Three bytes are a whole word and the half of one beside it; four are two whole words, or a low half, a whole word and a high half. A change of x in word k moves entry c of the row by x * S[k][c], and what is left is noise, near
 //! a multiple of 2h in all eight entries. One whole word is solved for: each entry leaves it some stretches of values mod 2h, and the stretches that all eight leave are few.
 //! The other word, or the two halves, are tried. Of 2^32 changes at each of 2n places some thousands leave noise that is small enough; these are guesses, the likeliest first.
 use std::collections::HashSet;
@@ -76,9 +76,9 @@ impl Burst<'_> {
         }
     }
 
-    /// Solves for the word `k`, all else being changed already, and adds the rows of groups that its values make. `other` is the second word whose highest bits, which
-    /// do not move the noise, are free.
-    fn around(&self, left: &Eight, k: usize, order: &[usize], other: usize, found: &mut Vec<Found>) {
+    /// Solves for the word `k`, all else being changed already, and adds the rows of groups that its values make. Its highest bits do not move the noise, and are free; so
+    /// are those of `other`, a second such word.
+    fn around(&self, left: &Eight, k: usize, order: &[usize], other: Option<usize>, found: &mut Vec<Found>) {
         let (s, limit) = (&self.s[k], self.limit());
         if (0..8).any(|c| s[c] == 0 && self.centred(left[c]).abs() > limit) {
             return;
@@ -88,10 +88,11 @@ impl Burst<'_> {
             let row = less(left, y, s);
             let size: i64 = row.iter().map(|&entry| i64::from(self.centred(entry)).pow(2)).sum();
             if size <= self.most() {
-                for free in 0..1_i32 << (2 * self.bits) {
-                    let (u, v) = (free >> self.bits, free & ((1 << self.bits) - 1));
-                    let groups = less(&less(&row, u * self.step, s), v * self.step, &self.s[other]);
-                    found.push((size, groups.map(|entry| self.group(entry))));
+                for u in 0..1_i32 << self.bits {
+                    let turned = less(&row, u * self.step, s);
+                    let tops = if other.is_some() { 1_i32 << self.bits } else { 1 };
+                    let groups = |v: i32| other.map_or(turned, |o| less(&turned, v * self.step, &self.s[o])).map(|entry| self.group(entry));
+                    found.extend((0..tops).map(|v| (size, groups(v))));
                 }
             }
         });
@@ -101,29 +102,43 @@ impl Burst<'_> {
         ((entry.wrapping_add(self.step / 2) >> self.step.trailing_zeros()) & ((1 << self.bits) - 1)) as u8
     }
 
+    /// What the low byte of word k may be changed by.
+    fn low_changes(&self, k: usize) -> std::ops::RangeInclusive<i32> {
+        let low = self.words[k] & 0xff;
+        -low..=0xff - low
+    }
+
+    /// The guesses of the three bytes from word k on, and of those from its low half on.
+    fn three_at(&self, k: usize, found: &mut Vec<Found>) {
+        let (first, second) = (having_a_say(&self.s[k]), having_a_say(&self.s[k + 1]));
+        for high in 0..self.step >> 8 {
+            self.around(&less(&self.entries, high << 8, &self.s[k + 1]), k, &first, Some(k + 1), found);
+        }
+        for x in self.low_changes(k) {
+            self.around(&less(&self.entries, x, &self.s[k]), k + 1, &second, None, found);
+        }
+    }
+
     /// The guesses of the four bytes from word k on, two whole words, and of those from its low half on.
-    fn at(&self, k: usize, found: &mut Vec<Found>) {
+    fn four_at(&self, k: usize, found: &mut Vec<Found>) {
         let order = having_a_say(&self.s[k + 1]);
         for x in 0..self.step {
-            self.around(&less(&self.entries, x, &self.s[k]), k + 1, &order, k, found);
+            self.around(&less(&self.entries, x, &self.s[k]), k + 1, &order, Some(k), found);
         }
-        if k + 2 < self.s.len() {
-            let low = self.words[k] & 0xff;
-            for x in -low..=0xff - low {
-                let left = less(&self.entries, x, &self.s[k]);
-                for high in 0..self.step >> 8 {
-                    self.around(&less(&left, high << 8, &self.s[k + 2]), k + 1, &order, k + 2, found);
-                }
+        for x in self.low_changes(k).filter(|_| k + 2 < self.s.len()) {
+            let left = less(&self.entries, x, &self.s[k]);
+            for high in 0..self.step >> 8 {
+                self.around(&less(&left, high << 8, &self.s[k + 2]), k + 1, &order, Some(k + 2), found);
             }
         }
     }
 
-    /// All guesses, the likeliest first.
-    pub fn guesses(&self) -> Vec<[u8; 8]> {
+    /// All guesses of three bytes, or of four, the likeliest first.
+    pub fn guesses(&self, four: bool) -> Vec<[u8; 8]> {
         let cores = thread::available_parallelism().map_or(1, usize::from);
         let share = |core: usize| {
             let mut found = Vec::new();
-            (core..self.s.len() - 1).step_by(cores).for_each(|k| self.at(k, &mut found));
+            (core..self.s.len() - 1).step_by(cores).for_each(|k| if four { self.four_at(k, &mut found) } else { self.three_at(k, &mut found) });
             found
         };
         let mut found: Vec<Found> = thread::scope(|scope| {

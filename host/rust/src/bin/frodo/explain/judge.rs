@@ -10,7 +10,8 @@ use Weight::{Likely, Next, Open, Proved, Seen};
 pub fn judge(set: &Set, facts: &Facts) -> Finding {
     let tried = &facts.tried;
     let near = closeness(&tried.parts);
-    let contradicted = facts.inputs.seed && near == Closeness::Same && (tried.message_back && !tried.secret_back || !tried.message_back && kept(facts) == Some(true));
+    let fits = facts.inputs.seed || facts.check.as_ref().is_some_and(|check| check.pkh_fits);
+    let contradicted = near == Closeness::Same && (fits && tried.message_back && !tried.secret_back || !tried.message_back && kept(facts) == Some(true));
     let finding = match near {
         Closeness::Same if contradicted => contradiction(),
         Closeness::Same if tried.message_back => whole(facts),
@@ -173,21 +174,27 @@ fn far(set: &Set, facts: &Facts) -> Finding {
 fn others(without: WithoutInputs) -> Finding {
     let what = if without.closeness == Closeness::Same { "in every byte a sealing" } else { "in part a sealing, damaged," };
     let (wrong, flags, seen) = match (without.message, without.salt) {
-        (true, true) => ("message and salt", "--message and --salt", "what it opens to with the salt that it carries"),
-        (true, false) => ("message", "--message", "what it opens to with the given salt, or with the one that it carries,"),
-        (false, _) => ("salt", "--salt", "the given message, or what it opens to, with the salt that it carries"),
+        (true, true) => {
+            ("message and the salt that were given: they are another report's, or damaged", "--message and --salt", "what it opens to with the salt that it carries")
+        }
+        (true, false) => {
+            ("message that was given: that is another report's, or damaged", "--message", "what it opens to with the given salt, or with the one that it carries,")
+        }
+        (false, _) => ("salt that was given: that is another report's, or damaged", "--salt", "the given message, or what it opens to, with the salt that it carries"),
     };
-    Finding::new(Verdict::Undecided, format!("The report is {what} to this key, but not of the {wrong} that was given: that is another report's, or damaged."))
+    Finding::new(Verdict::Undecided, format!("The report is {what} to this key, but not of the {wrong}."))
         .because(Seen, format!("Sealing {seen} gives it; sealing all that was given gives wholly other bytes."))
-        .because(Open, format!("Whether the {wrong} belongs to another report, or the report was replaced by another."))
+        .because(Open, "Whether what was given belongs to another report, or the report was replaced by another.")
         .because(Next, format!("Without {flags} it is judged by itself."))
 }
 
 /// The key file is damaged, and the report cannot be judged with it.
 fn unjudged(facts: &Facts) -> Finding {
+    let public = facts.check.as_ref().is_some_and(|check| check.pkh_fits) && !(facts.inputs.message && facts.inputs.salt);
     Finding::new(Verdict::Undecided, "The secret key file is damaged, and with it the report cannot be judged.")
-        .because(Seen, format!("Sealing {} gives other bytes nearly everywhere, as it does under any damaged public key.", sealing(facts)))
+        .because(Seen, format!("Sealing {} gives other bytes nearly everywhere, as it does where the public key, or S, is damaged.", sealing(facts)))
         .because(Open, "Whether the report is intact.")
+        .because_if(public, Next, "The public key is whole: --message and --salt of the report's sealing can judge it.")
         .because(Next, "Keep the report. The seed (--seed), or a whole copy of the secret key, can judge it; `frodo check` tells whether a copy is whole.")
 }
 
@@ -200,7 +207,8 @@ fn unrelated(facts: &Facts) -> Finding {
             .because(Proved(ENCAPS_ONE), format!("The {key}, the message and the salt fix every byte of the sealed report. If they are this report's, it was destroyed."))
             .because(Open, "Whether they are this report's, or it was not sealed to this key, or of another message and salt, and is whole.");
     let carried = facts.tried.parts.iter().any(|p| p.name == "salt" && p.same());
-    let finding = finding.because_if(carried, Seen, "The given salt is the one that the report carries: the key or the message is not this report's, or c1 and c2 are destroyed.");
+    let finding =
+        finding.because_if(carried, Seen, "The given salt is the one that the report carries: the key or the message is not this report's, or c1 and c2 are destroyed.");
     noise(facts, finding).because(Next, "Keep the report, and try other keys, messages and salts before it is given up.")
 }
 
@@ -233,13 +241,13 @@ fn undecided(facts: &Facts) -> Finding {
     finding
         .because(Proved(ACCEPTED), "Under a key that holds its own hash such bytes are not accepted: `frodo open` gives a secret made of them and the key's s.")
         .because(Open, format!("Which of these it is: {}.", causes(facts).join("; ")))
-        .because_if(!missing.is_empty(), Next, format!("{} of the sealing would decide it.", missing.join(", ")))
+        .because_if(!missing.is_empty(), Next, format!("{} of its sealing decide it, if it was sealed to this key.", missing.join(", ")))
 }
 
 /// Facts that a theorem rules out.
 fn contradiction() -> Finding {
     Finding::new(Verdict::Undecided, "What was seen contradicts a theorem: the machine or this program is at fault.")
-        .because(Proved(THIRD_DEMAND), "A report that is what sealing makes, under the seed's own key, opens to its secret wherever its message comes back.")
+        .because(Proved(THIRD_DEMAND), "A report that is what sealing makes, under a key as it was generated, opens to its secret wherever its message comes back.")
         .because(Proved(KEPT_BACK), "And its message comes back wherever the margin is kept.")
         .because(Next, "Run it again, on another machine.")
 }
@@ -351,6 +359,10 @@ mod tests {
         f.tried.secret_back = false;
         let finding = verdict(&f);
         assert!(finding.headline.contains("contradicts a theorem") && finding.status == Status::Undecided && !finding.known);
+        // without the seed, under a key that holds its own hash
+        let mut f = facts();
+        f.tried.secret_back = false;
+        assert!(verdict(&f).headline.contains("contradicts a theorem"));
     }
 
     #[test]
@@ -428,7 +440,7 @@ mod tests {
         f.searched = Some(512);
         let finding = verdict(&f);
         assert!(finding.verdict == Verdict::Undecided && !finding.known && cites(&finding, ACCEPTED) && says(&finding, Open, "not sealed to this key"));
-        assert!(says(&finding, Seen, "Of 512 messages and salts") && says(&finding, Next, "--message, --salt of the sealing would decide it"));
+        assert!(says(&finding, Seen, "Of 512 messages and salts") && says(&finding, Next, "--message, --salt of its sealing decide it"));
         (f.inputs.message, f.tried.message) = (true, Message::Given);
         assert!(says(&verdict(&f), Open, "the salt is damaged in more than one byte"));
         f.without = Some(WithoutInputs { message: true, salt: false, closeness: Closeness::Same });

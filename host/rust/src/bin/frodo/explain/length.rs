@@ -36,7 +36,11 @@ pub fn unexplained(set: &Set, facts: &Facts) -> Finding {
     }
     let headline = match sets::report_lengths().get(&found) {
         Some(names) => {
-            format!("The file has {found} bytes, the length of {}: as it stands it is none of this key's, which is of set {} with {expected}.", names.join(", or of "), set.number)
+            format!(
+                "The file has {found} bytes, the length of {}: as it stands it is none of this key's, which is of set {} with {expected}.",
+                names.join(", or of "),
+                set.number
+            )
         }
         None => format!("The file has {found} bytes, and a report of set {} has {expected}. It can hold {}.", set.number, kinds.join(", or ")),
     };

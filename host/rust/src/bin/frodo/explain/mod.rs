@@ -41,9 +41,10 @@ With seed, message and salt it is decided, if they are this report's: key and re
 Where they are not, nothing ties them to the report, and it stays undecided: it may be whole, and another's.
 A secret key file that is damaged is told first (`frodo check`); a seed of another key is told, and left out where the report is the key file's. A report that ends too
 soon, or has bytes behind it, is judged by what is there.
-With the secret key alone, what the report opens to is sealed again with the report's own salt. Where that gives other bytes nearly everywhere, it is searched for:
-one damaged byte anywhere, two neighbouring ones in each of up to four rows of c1 and c2, or one group of the message that noise has changed. That takes seconds;
---no-search leaves it out.
+With a key alone, what the report opens to is sealed again with the report's own salt. Where that gives other bytes nearly everywhere, it is searched for: one damaged
+byte anywhere; four neighbouring ones in a row of c1, or any number of them in a row where a row holds 16 bits of the message (set 1); two in each of up to four rows;
+some neighbouring words of c2; the last two bytes of the salt, where they are missing; or groups of the message that noise has changed. That takes seconds; --no-search
+leaves it out.
 Each reason says whether it was seen in this run, is proved (by which theorem, in which file), or is only likely.
 With --repair the sealed report and its secret are written where they are known; the exit status is the verdict's all the same.",
     flags: &[

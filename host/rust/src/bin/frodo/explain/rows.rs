@@ -3,7 +3,7 @@
 //! C - B'*S is the encoded message plus noise that is small beside h, so that each of its 64 entries stands near a multiple of 2h. Damage in row i of c1 or c2 moves
 //! the entries of row i alone. Where rows stand off, every change of two neighbouring bytes that brings all entries of a row back is a guess, the nearest one first.
 //! Where none does, every change of one byte that moves entries from one multiple to another is. One row that stands off is tried further: all that its groups can be,
-//! where these are few, and else what a change of four neighbouring bytes makes of them. Guesses need no trust: each is sealed again and compared.
+//! where these are few, and else what a change of three or four neighbouring bytes makes of them. Guesses need no trust: each is sealed again and compared.
 use super::burst::Burst;
 use super::matrix::{stored_s, word};
 use crate::sets::Set;
@@ -111,14 +111,14 @@ impl<'a> Opening<'a> {
         self.entries[i].map(|entry| ((entry.wrapping_add(self.half()) >> (self.half().trailing_zeros() + 1)) & ((1 << self.set.bits) - 1)) as u8)
     }
 
-    /// What four neighbouring bytes of row i of c1 can have made of its groups, where words have two bytes.
-    fn burst(&self, i: usize) -> Vec<[u8; 8]> {
+    /// What three neighbouring bytes of row i of c1, or four, can have made of its groups, where words have two bytes.
+    fn burst(&self, i: usize, four: bool) -> Vec<[u8; 8]> {
         let Set { n, log_q, bits, .. } = *self.set;
         if log_q != 16 {
             return Vec::new();
         }
         let words: Vec<i32> = (0..n).map(|k| word(self.c1, log_q, i * n + k)).collect();
-        Burst { entries: self.entries[i], words: &words, s: &self.s, step: 2 * self.half(), bits, spread: self.set.noise_spread() }.guesses()
+        Burst { entries: self.entries[i], words: &words, s: &self.s, step: 2 * self.half(), bits, spread: self.set.noise_spread() }.guesses(four)
     }
 
     /// The guess that row i makes as it stands.
@@ -164,38 +164,48 @@ fn message(set: &Set, rows: &[[u8; 8]]) -> Vec<u8> {
     bytes
 }
 
-/// The messages that the report opens to with one byte of a row changed, or two in each of up to four rows that stand off, the best guesses first. Empty where too many
+/// The messages that the report opens to with one byte changed where no row stands off, or two in each of two to four rows that do, the best guesses first. Empty where more
 /// rows stand off, or one cannot be brought back.
 pub fn messages(opening: &Opening<'_>) -> Vec<Vec<u8>> {
     let as_is: Vec<Option<Guess>> = (0..8).map(|i| opening.as_is(i)).collect();
     let off = as_is.iter().filter(|guess| guess.is_none()).count();
     match off {
+        // one row is put right by `in_one_row`
+        1 => Vec::new(),
         0 => unseen(opening, &as_is.iter().flatten().map(|(_, groups)| *groups).collect::<Vec<_>>()),
-        1..=4 => combined(opening, &as_is, off),
+        2..=4 => combined(opening, &as_is, off),
         _ => Vec::new(),
     }
 }
 
-/// The messages that the report opens to where one row holds other groups: the row that stands off or, where none does and the groups of a row are few, any.
-pub fn in_one_row<'a>(opening: &'a Opening<'a>) -> Box<dyn Iterator<Item = Vec<u8>> + 'a> {
+/// The messages that the report opens to where one row holds other groups: all that there are where the groups of a row are few, for the row that stands off or, where none
+/// does, for any; else those that a change of three bytes, or of four, makes in the row that stands off.
+pub fn in_one_row<'a>(opening: &'a Opening<'a>, four: bool) -> Box<dyn Iterator<Item = Vec<u8>> + 'a> {
     let few = 8 * opening.set.bits <= ALL_BITS;
     let rows = match opening.rows_off()[..] {
-        [row] => vec![row],
-        [] if few => (0..8).collect(),
+        [row] if !(few && four) => vec![row],
+        [] if few && four => (0..8).collect(),
         _ => vec![],
     };
     let whole: Vec<[u8; 8]> = (0..8).map(|i| opening.groups(i)).collect();
-    let put = move |row: usize, groups: [u8; 8]| {
+    let put = move |(row, groups): (usize, [u8; 8])| {
         let mut rows = whole.clone();
         rows[row] = groups;
         message(opening.set, &rows)
     };
-    if few {
-        let (bits, count) = (opening.set.bits, 1_u32 << (8 * opening.set.bits));
-        let groups = move |value: u32| std::array::from_fn(|j| (value >> (bits * j)) as u8 & ((1 << bits) - 1));
-        return Box::new(rows.into_iter().flat_map(move |row| (0..count).map(move |value| (row, groups(value)))).map(move |(row, groups)| put(row, groups)));
-    }
-    Box::new(rows.into_iter().flat_map(move |row| opening.burst(row).into_iter().map(move |groups| (row, groups))).map(move |(row, groups)| put(row, groups)))
+    let guesses = move |row: usize| -> Box<dyn Iterator<Item = [u8; 8]>> {
+        if few {
+            Box::new(every_row(opening.set.bits))
+        } else {
+            Box::new(opening.burst(row, four).into_iter())
+        }
+    };
+    Box::new(rows.into_iter().flat_map(move |row| guesses(row).map(move |groups| (row, groups))).map(put))
+}
+
+/// Eight groups of so many bits, all that there are.
+fn every_row(bits: usize) -> impl Iterator<Item = [u8; 8]> {
+    (0..1_u32 << (8 * bits)).map(move |value| std::array::from_fn(|j| (value >> (bits * j)) as u8 & ((1 << bits) - 1)))
 }
 
 /// Every message that one changed byte can have made of another without a trace but the message.
@@ -272,7 +282,12 @@ mod tests {
                 damaged[at..at + count].iter_mut().zip([0x5b, 0xc3, 0x96, 0xe7].iter().cycle()).for_each(|(byte, bits)| *byte ^= bits);
                 let opening = Opening::new(&set, &keys.secret, &damaged);
                 assert_eq!(opening.rows_off(), [at / row], "set {}", set.number);
-                assert!(in_one_row(&opening).any(|message| message == sent), "set {}, from {at} on", set.number);
+                assert!(in_one_row(&opening, 8 * set.bits > ALL_BITS).any(|message| message == sent), "set {}, from {at} on", set.number);
+                let three: Vec<u8> = damaged[..at + 3].iter().chain(&whole[at + 3..]).copied().collect();
+                let opening = Opening::new(&set, &keys.secret, &three);
+                // S may leave a word alone: then the message comes back by itself
+                let unmoved = kem.open(&keys.secret, &three).unwrap().message == sent;
+                assert!(unmoved || in_one_row(&opening, false).any(|message| message == sent), "set {}, three from {at} on", set.number);
             }
         }
     }

@@ -70,7 +70,9 @@ mod tests {
             let from = start(&set);
             let salts: HashSet<Vec<u8>> = salts(&from).map(|c| c.salt.1).collect();
             assert_eq!(salts.len(), 255 * set.lengths.salt);
-            let differ = |c: &Candidate| (0..8 * c.message.1.len()).filter(|at| (c.message.1[at / 8] ^ from.message.1[at / 8]) >> (at % 8) & 1 == 1).map(|at| at / set.bits).collect();
+            let differ = |c: &Candidate| {
+                (0..8 * c.message.1.len()).filter(|at| (c.message.1[at / 8] ^ from.message.1[at / 8]) >> (at % 8) & 1 == 1).map(|at| at / set.bits).collect()
+            };
             for c in messages(&set, &from, &[]).step_by(997).chain(messages(&set, &from, &[9, 11]).step_by(997)) {
                 let groups: Vec<usize> = differ(&c);
                 assert_eq!(c.message.0, Message::Groups(groups[0], groups[groups.len() - 1] - groups[0] + 1));

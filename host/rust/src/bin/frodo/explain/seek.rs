@@ -24,12 +24,13 @@ pub fn search(judge: &Judge<'_>, case: &Case, from: &Candidate) -> Result<(Optio
     let opening = Opening::new(&judge.set, judge.secret, judge.report);
     let (entries, rows) = (opening.entries_off(), opening.rows_off());
     let put_right = |message: Vec<u8>| Candidate { message: (Message::Rows(rows.len().max(1)), message), ..from.clone() };
-    let stages: [Stage<'_>; 5] = [
+    let stages: [Stage<'_>; 6] = [
         (any_salt && (1..=MOST_MISSING).contains(&missing), "the end of the salt", &|| Box::new(endings(from, missing))),
         (any_salt && missing == 0, "one byte of the salt", &|| Box::new(salts(from))),
-        (any_message && missing == 0, "bytes of c1 and c2", &|| Box::new(rows::messages(&opening).into_iter().map(put_right))),
+        (any_message && missing == 0, "bytes of c1", &|| Box::new(rows::messages(&opening).into_iter().map(put_right))),
+        (any_message && missing == 0, "one row of c1", &|| Box::new(rows::in_one_row(&opening, false).map(put_right))),
         (any_message && missing == 0, "neighbouring groups of the message", &|| messages(&judge.set, from, &entries)),
-        (any_message && missing == 0, "one row of c1", &|| Box::new(rows::in_one_row(&opening).map(put_right))),
+        (any_message && missing == 0, "four bytes of a row of c1", &|| Box::new(rows::in_one_row(&opening, true).map(put_right))),
     ];
     if stages.iter().all(|(wanted, _, _)| !wanted) {
         return Ok((None, None));
