@@ -33,6 +33,8 @@ pub struct Opening<'a> {
     /// S, a row for each of the n words of a row of B'.
     s: Vec<[i32; 8]>,
     entries: [[i32; 8]; 8],
+    /// The most that an entry may stand off: of 64 entries noise leaves one beyond in one report of 2000. That makes the guesses fail, no more.
+    limit: i32,
 }
 
 /// How far a row's entries stand off, the less the better, and the row's groups.
@@ -50,7 +52,7 @@ impl<'a> Opening<'a> {
                 (0..8).for_each(|j| row[j] = row[j].wrapping_sub(b.wrapping_mul(s_row[j])));
             }
         }
-        Self { set, c1, c2, s, entries }
+        Self { set, c1, c2, s, entries, limit: (4.5 * set.noise_spread()) as i32 }
     }
 
     /// h = q / 2^(B+1).
@@ -63,14 +65,9 @@ impl<'a> Opening<'a> {
         ((entry.wrapping_add(self.half()) & (2 * self.half() - 1)) - self.half()).abs()
     }
 
-    /// The most that an entry may stand off: of 64 entries noise leaves one beyond in one report of 2000. That makes the guesses fail, no more.
-    fn limit(&self) -> i32 {
-        (4.5 * self.set.noise_spread()) as i32
-    }
-
     /// The entries of the 64 that stand off.
     pub fn entries_off(&self) -> Vec<usize> {
-        (0..64).filter(|&at| self.off(self.entries[at / 8][at % 8]) > self.limit()).collect()
+        (0..64).filter(|&at| self.off(self.entries[at / 8][at % 8]) > self.limit).collect()
     }
 
     /// The rows that have such an entry.
@@ -85,7 +82,7 @@ impl<'a> Opening<'a> {
         let mut worst = 0;
         for j in 0..8 {
             worst = worst.max(self.off(row(j)));
-            if worst > self.limit() {
+            if worst > self.limit {
                 return None;
             }
         }
@@ -139,7 +136,7 @@ impl<'a> Opening<'a> {
                 let new = words ^ change << shift;
                 let (high, low) = (((new >> d) - (words >> d)) as i32, ((new & mask) - (words & mask)) as i32);
                 let entry = |j: usize| row[j].wrapping_sub(high.wrapping_mul(a[j])).wrapping_sub(low.wrapping_mul(b[j]));
-                if self.off(entry(first)) <= self.limit() {
+                if self.off(entry(first)) <= self.limit {
                     let weight = if change & 0xff == 0 || change >> 8 == 0 { 1 } else { 2 };
                     found.extend(self.guess(entry).map(|(worst, groups)| (weight * worst, groups)));
                 }
@@ -178,13 +175,12 @@ pub fn messages(opening: &Opening<'_>) -> Vec<Vec<u8>> {
     }
 }
 
-/// The messages that the report opens to where one row holds other groups: all that there are where the groups of a row are few, for the row that stands off or, where none
-/// does, for any; else those that a change of three bytes, or of four, makes in the row that stands off.
+/// The messages that the report opens to where the one row that stands off holds other groups: all that there are where the groups of a row are few, else those that a change of
+/// three bytes, or of four, makes.
 pub fn in_one_row<'a>(opening: &'a Opening<'a>, four: bool) -> Box<dyn Iterator<Item = Vec<u8>> + 'a> {
     let few = 8 * opening.set.bits <= ALL_BITS;
     let rows = match opening.rows_off()[..] {
         [row] if !(few && four) => vec![row],
-        [] if few && four => (0..8).collect(),
         _ => vec![],
     };
     let whole: Vec<[u8; 8]> = (0..8).map(|i| opening.groups(i)).collect();

@@ -3,8 +3,9 @@
 use super::facts::{Message, Salt};
 use crate::sets::Set;
 
-/// How many messages that differ in neighbouring groups are tried at most.
+/// How many messages that differ in neighbouring groups are tried at most: where entries stand off, and where none does, so that damage to c2 is unlikely.
 const MOST_GROUPS: usize = 1 << 19;
+const MOST_UNSEEN: usize = 1 << 15;
 
 /// A message and a salt to try.
 #[derive(Clone, Debug, PartialEq, Eq)]
@@ -32,8 +33,8 @@ pub fn endings(from: &Candidate, count: usize) -> impl Iterator<Item = Candidate
     })
 }
 
-/// Every message that differs in neighbouring groups of B bits: what damage to neighbouring words of c2, or a spoiled entry, makes of it. Where entries stand off, the groups
-/// are those from `first` to `last` and as many more around them as keep the messages few; else they are any.
+/// Every message that differs in one group of B bits, and then in neighbouring ones: what a spoiled entry, or damage to neighbouring words of c2, makes of it. Where entries
+/// stand off, the neighbouring groups are all of these and as many more around them as keep the messages few; else they are any.
 pub fn messages<'a>(set: &Set, from: &'a Candidate, off: &[usize]) -> Box<dyn Iterator<Item = Candidate> + 'a> {
     let bits = set.bits;
     let span = off.first().zip(off.last());
@@ -41,17 +42,22 @@ pub fn messages<'a>(set: &Set, from: &'a Candidate, off: &[usize]) -> Box<dyn It
         Some((&first, &last)) => ((last + 1).saturating_sub(count)..=first).filter(|start| start + count <= 64).collect::<Vec<_>>(),
         None => (0..=64 - count).collect(),
     };
-    let count = (1..=20 / bits).rev().find(|&count| starts(count).len() << (count * bits) <= MOST_GROUPS).unwrap_or(1);
-    let changes = move |start: usize| (1..1_u32 << (count * bits)).map(move |change| (start, change));
-    Box::new(starts(count).into_iter().flat_map(changes).map(move |(start, change)| {
-        let mut message = from.message.1.clone();
-        for bit in (0..count * bits).filter(|bit| change >> bit & 1 == 1) {
-            let at = start * bits + bit;
-            message[at / 8] ^= 1 << (at % 8);
-        }
-        let (low, high) = (change.trailing_zeros() as usize / bits, change.ilog2() as usize / bits);
-        Candidate { message: (Message::Groups(start + low, high - low + 1), message), ..from.clone() }
-    }))
+    let most = if off.is_empty() { MOST_UNSEEN } else { MOST_GROUPS };
+    let count = (1..=20 / bits).rev().find(|&count| starts(count).len() << (count * bits) <= most).unwrap_or(1);
+    let windows = (0..64).map(|start| (start, 1)).chain(starts(count).into_iter().map(move |start| (start, count)));
+    let changes = move |(start, count): (usize, usize)| (1..1_u32 << (count * bits)).map(move |change| (start, change));
+    Box::new(windows.flat_map(changes).map(move |(start, change)| changed(from, bits, start, change)))
+}
+
+/// A candidate with bits of its message changed, from group `start` on.
+fn changed(from: &Candidate, bits: usize, start: usize, change: u32) -> Candidate {
+    let mut message = from.message.1.clone();
+    for bit in (0..32).filter(|bit| change >> bit & 1 == 1) {
+        let at = start * bits + bit;
+        message[at / 8] ^= 1 << (at % 8);
+    }
+    let (low, high) = (change.trailing_zeros() as usize / bits, change.ilog2() as usize / bits);
+    Candidate { message: (Message::Groups(start + low, high - low + 1), message), ..from.clone() }
 }
 
 #[cfg(test)]
@@ -79,8 +85,8 @@ mod tests {
             }
             let one: HashSet<Vec<u8>> = messages(&set, &from, &[]).filter(|c| matches!(c.message.0, Message::Groups(_, 1))).map(|c| c.message.1).collect();
             assert_eq!(one.len(), 64 * ((1 << set.bits) - 1));
-            assert!(messages(&set, &from, &[]).count() <= MOST_GROUPS && messages(&set, &from, &[9, 11]).count() <= MOST_GROUPS);
-            assert_eq!(messages(&set, &from, &[0, 63]).count(), 0, "not neighbours");
+            assert!(messages(&set, &from, &[]).count() <= 2 * MOST_UNSEEN && messages(&set, &from, &[9, 11]).count() <= 2 * MOST_GROUPS);
+            assert_eq!(messages(&set, &from, &[0, 63]).count(), 64 * ((1 << set.bits) - 1), "not neighbours: one group alone");
             let ends: HashSet<Vec<u8>> = endings(&from, 2).map(|c| c.salt.1).collect();
             assert!(ends.len() == 65536 && ends.contains(&from.salt.1));
         }
