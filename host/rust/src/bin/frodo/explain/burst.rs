@@ -15,6 +15,9 @@ type Found = (i64, [u8; 8]);
 /// How many guesses are given at most.
 const MOST: usize = 1 << 20;
 
+/// Where so many guesses are found on a core the row is hardly off, and small changes fit everywhere: no more are looked for.
+const MANY: usize = 1 << 22;
+
 /// A row that is to be put right.
 pub struct Burst<'a> {
     /// Its entries of C - B'*S.
@@ -80,7 +83,7 @@ impl Burst<'_> {
     /// are those of `other`, a second such word.
     fn around(&self, left: &Eight, k: usize, order: &[usize], other: Option<usize>, found: &mut Vec<Found>) {
         let (s, limit) = (&self.s[k], self.limit());
-        if (0..8).any(|c| s[c] == 0 && self.centred(left[c]).abs() > limit) {
+        if found.len() > MANY || (0..8).any(|c| s[c] == 0 && self.centred(left[c]).abs() > limit) {
             return;
         }
         let whole = (0, if order.is_empty() { 0 } else { self.step - 1 });
