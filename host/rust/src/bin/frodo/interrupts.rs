@@ -95,5 +95,12 @@ pub fn held<T>(work: impl FnOnce() -> T, undo: impl FnOnce(T)) -> T {
         process::abort(); // not reached: an interrupt ends the process
     }
     HELD.store(false, SeqCst);
-    done
+    // one that came between the question and the line above: all stands, and it ends the process as any later one would
+    match WAITING.load(SeqCst) {
+        0 => done,
+        number => {
+            interrupted(number);
+            done
+        }
+    }
 }

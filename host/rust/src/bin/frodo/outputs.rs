@@ -147,6 +147,7 @@ pub fn to_stdout(bytes: &[u8]) -> Result<(), Failure> {
     let mut out = io::stdout().lock();
     out.write_all(bytes).and_then(|()| out.flush()).map_err(|error| Failure::refused(format!("standard output cannot be written: {error}")))
 }
+
 /// Writes an output to a temporary file, down to the disk.
 fn wait(output: &Output<'_>) -> Result<Waiting, Failure> {
     let path = Path::new(output.path);

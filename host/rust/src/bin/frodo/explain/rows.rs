@@ -263,6 +263,7 @@ mod tests {
             assert!(off == 2 && guesses.contains(&sent), "set {}: {off} rows off, {} guesses", set.number, guesses.len());
         }
     }
+
     #[test]
     fn a_burst_in_one_row_is_undone() {
         for set in sets::all() {
