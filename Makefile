@@ -66,10 +66,11 @@ test: wanted layout prove host cli c-tests installed replay side-by-side
 	@echo "the library's tests have passed, on $(call about,name); the prover had said:"
 	@tail -n 1 build/ci.log
 
-# Files in their layout, and documents that name what is there.
+# Files in their layout, documents that name what is there, and a build that turns other processors away.
 layout:
 	rt fmt --check
 	tests/docs/check
+	tests/wanted/processors
 
 # What a build and its tests lean on, before the first proof.
 wanted:
