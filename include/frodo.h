@@ -130,7 +130,9 @@ uint32_t frodo_decapsulate_shared_secret(uint32_t set, const uint8_t *sk, size_t
     uint8_t *ss, size_t ss_len, uint16_t *noise, size_t noise_len, uint16_t *work, size_t work_len);
 
 /* How far the noise of a seed, a message and a salt is from spoiling the message: the largest size of a centred entry of S'E + E'' - E'S; that size over
- * h = q/2^(B+1), exactly; and kept, 1 where the size is below h, else 0. The seed is only read. Refusals 1, 2, 6, 7, 9, with size 0, ratio 0.0 and kept 0. */
+ * h = q/2^(B+1), exactly; and kept, 1 where every such entry is at least -h and less than h, else 0. Kept is 1 if and only if decapsulation of that seed's key, message and salt
+ * gives the message back, and then it gives the same secret. A ratio of 1.0 goes with kept 1 where the worst entry is -h, and with kept 0 where one is h. The seed is only read.
+ * Refusals 1, 2, 6, 7, 9, with size 0, ratio 0.0 and kept 0. */
 struct frodo_margin_answer {
     uint32_t refusal;
     uint32_t size;

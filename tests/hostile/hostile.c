@@ -97,7 +97,9 @@ static uint32_t make(const struct trial *t) {
         if (m.refusal != 0 && (m.size != 0 || m.ratio != 0.0 || m.kept != 0)) fail(t, "a refused margin has a size, a ratio or a verdict");
         if (m.refusal == 0) {
             double h = t->set == 3 ? 2048.0 : 4096.0;
-            if (m.ratio != m.size / h || m.kept != (m.size < h)) fail(t, "ratio or verdict do not follow from the size");
+            if (m.ratio != m.size / h) fail(t, "the ratio is not the size over h");
+            /* of a size of h itself the sign decides, which a margin does not tell */
+            if (m.kept > 1 || (m.size != h && m.kept != (m.size < h))) fail(t, "the verdict does not go with the size");
         }
         return m.refusal;
     }

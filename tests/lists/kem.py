@@ -3,13 +3,14 @@
 
     SET SEED MSG SALT PK SK CT SS             keys, ciphertext and secret, as in published.txt: three digests and the secret whole
     open SET SEED MSG SALT KIND PLACE BITS SS MSG      what decapsulation gives after damage
-    margin SET SEED MSG SALT SIZE             the largest size of a centred entry of S'E + E'' - E'S
+    margin SET SEED MSG SALT SIZE KEPT        the largest size of a centred entry of S'E + E'' - E'S, and whether the message comes back
 
 KIND is 0, no damage; 1 or 2, the byte at PLACE of the ciphertext or of the secret key with BITS exclusive-ored in; 3 or 4, every byte of
-it replaced by SHAKE128 over SEED. PLACE and SIZE are two bytes, big-endian. A digest is 16 bytes of SHAKE256.
-The crate has no margin: sizes are computed here from the FrodoKEM standard proposal (2023), with hashlib's SHAKE and whole numbers. Only the public key is the oracle's."""
+it replaced by SHAKE128 over SEED. PLACE and SIZE are two bytes, big-endian; KEPT is one, 01 or 00. A digest is 16 bytes of SHAKE256.
+The crate has no margin: sizes are computed here from the FrodoKEM standard proposal (2023), with hashlib's SHAKE and whole numbers. Only the public key is the oracle's. KEPT is
+what the oracle's decapsulation of the undamaged ciphertext says, and is held against the entries (docs/RULES.md, 4.11.4)."""
 import hashlib
-from oracle import D, N, Oracle, SECRET, SEED_SE, digest, random, unwords, write
+from oracle import B, D, N, Oracle, SECRET, SEED_SE, digest, random, unwords, write
 
 # docs/RULES.md, 4.5: the tables of the noise, without the last entry, which is left out.
 TABLE = {
@@ -32,8 +33,8 @@ def noise(s, front, seed_se, count):
     return [sample(s, word) for word in unwords(shake(s, bytes([front]) + seed_se, 2 * count))]
 
 
-def largest_size(s, seed, pk, msg, salt):
-    """docs/RULES.md, 4.11. S is stored transposed, E row by row; S', E' and E'' row by row."""
+def centred_entries(s, seed, pk, msg, salt):
+    """docs/RULES.md, 4.11: S'E + E'' - E'S. S is stored transposed, E row by row; S', E' and E'' row by row."""
     n, q, secret = N[s], 2 ** D[s], SECRET[s]
     drawn = noise(s, 0x5F, seed[secret : secret + SEED_SE[s]], 16 * n)
     columns_s = [drawn[j * n : j * n + n] for j in range(8)]
@@ -47,7 +48,16 @@ def largest_size(s, seed, pk, msg, salt):
         return sum(x * y for x, y in zip(row, column, strict=True))
 
     entries = [product(rows_s[i], columns_e[j]) + drawn[16 * n + 8 * i + j] - product(rows_e[i], columns_s[j]) for i in range(8) for j in range(8)]
-    return max(abs((entry + q // 2) % q - q // 2) for entry in entries)
+    return [(entry + q // 2) % q - q // 2 for entry in entries]
+
+
+def margin(s, seed, pk, sk, ct, msg, salt):
+    """SIZE and KEPT."""
+    entries, h = centred_entries(s, seed, pk, msg, salt), 2 ** (D[s] - B[s] - 1)
+    back = oracle.ask("decaps", s, sk.hex(), ct.hex())[1] == msg.hex()
+    if back != all(-h <= entry < h for entry in entries):
+        raise SystemExit(f"set {s} seed {seed.hex()}: the entries say that the message {'is lost' if back else 'comes back'}, and the oracle has it {'back' if back else 'lost'}")
+    return f"{max(abs(entry) for entry in entries).to_bytes(2, 'big').hex()} {back:02x}"
 
 
 oracle = Oracle()
@@ -66,7 +76,7 @@ for s in (1, 2, 3):
         ct, ss = (bytes.fromhex(x) for x in oracle.ask("encaps", s, pk.hex(), msg.hex(), salt.hex()))
         front = f"{s} {seed.hex()} {msg.hex()} {salt.hex()}"
         lines.append(f"{front} {digest(pk)} {digest(sk)} {digest(ct)} {ss.hex()}")
-        lines.append(f"margin {front} {largest_size(s, seed, pk, msg, salt).to_bytes(2, 'big').hex()}")
+        lines.append(f"margin {front} {margin(s, seed, pk, sk, ct, msg, salt)}")
 
         def place(label, start, size):
             return start + int.from_bytes(random(f"{label} {s} {k}", 4), "big") % size

@@ -1,5 +1,5 @@
 #!/usr/bin/env python3
-"""Writes crates/replay_parts/data/parts.txt: the oracle's answers for sampling, message coding and packing.
+"""Writes crates/replay_parts/data/parts.txt: the oracle's answers for sampling, message coding and packing, and margins of noise.
 
     sample SET DIGEST           all 65,536 words, each sampled
     decode SET DIGEST           all 65,536 words, 64 at a time, each decoded
@@ -7,8 +7,10 @@
     unpack SET BYTES WORDS      the bytes of eight words
     encode SET MSG DIGEST       a message's 64 words
     one_sample SET WORD WORD, one_decode SET WORD GROUP      the numbers of docs/RULES.md, 5, checked here against it
+    margin SET NOISE SIZE,KEPT  64 words of noise: their largest size, two bytes, the higher first, and whether they are kept, a byte
 
-A digest is 16 bytes of SHAKE256."""
+A digest is 16 bytes of SHAKE256. The crate has no margin: a size is computed here, and noise is kept where the oracle decodes each of four messages from that message's words with the noise
+added. Of noise around an end of the range that is held against docs/RULES.md, 4.11.4."""
 from oracle import B, D, Oracle, SECRET, digest, random, text, unwords, words, write
 
 # docs/RULES.md, 5: marked and unmarked
@@ -18,8 +20,12 @@ PACK = {1: {(1, 0, 0, 0, 0, 0, 0, 0): "0002" + "00" * 13, (0, 0, 0, 0, 0, 0, 0, 
         2: {(0x1234,) + (0,) * 7: "1234" + "00" * 14}, 3: {}}
 ENCODE = {1: {"1b00": [24576, 16384, 8192, 0, 0, 0, 0, 0]}, 2: {"88c6fa": [0, 8192, 16384, 24576, 32768, 40960, 49152, 57344]}, 3: {"21": [4096, 8192]}}
 
+# the worst entry of the noise: its size, and whether it is kept
+MARGIN = {1: {-4096: (4096, True), 4096: (4096, False), -4097: (4097, False), 4095: (4095, True)}, 2: {-4096: (4096, True), 4096: (4096, False), -4097: (4097, False), 4095: (4095, True)},
+          3: {-2048: (2048, True), 2048: (2048, False), -2049: (2049, False), 2047: (2047, True)}}
+
 oracle = Oracle()
-lines = ["# frodo-kem-rs 0.9.1's answers for sampling, message coding and packing (tests/lists/parts.py)."]
+lines = ["# frodo-kem-rs 0.9.1's answers for sampling, message coding and packing, and margins of noise (tests/lists/parts.py)."]
 
 
 def same(what, found, said):
@@ -31,6 +37,30 @@ def group(s, word):
     """The group that a word is decoded to: the lowest of a message whose first word it is."""
     (message,) = oracle.ask("decode", s, words([word] + [0] * 63).hex())
     return bytes.fromhex(message)[0] % 2 ** B[s]
+
+
+def kept(s, entries):
+    """Whether the oracle decodes each of four messages from its words with this noise added: all or none."""
+    messages = [bytes(SECRET[s]), bytes([255]) * SECRET[s], random(f"margin {s} a", SECRET[s]), random(f"margin {s} b", SECRET[s])]
+    noise = words(e % 2 ** D[s] for e in entries).hex()
+    back = {oracle.ask("decode", s, oracle.ask("add", s, noise, oracle.ask("encode", s, m.hex())[0])[0])[0] == m.hex() for m in messages}
+    (answer,) = back
+    return answer
+
+
+def around(s):
+    """Noise, 64 entries each: with a worst entry around an end of the range, alone at some place and among others; with two such entries; all alike; and random."""
+    q, h = 2 ** D[s], 2 ** (D[s] - B[s] - 1)
+    drawn = [[w % h - h // 2 for w in unwords(random(f"margin {s} {k}", 128))] for k in range(10)]
+    for k, worst in enumerate([*MARGIN[s], 1, -1, -q // 2, q // 2 - 1]):
+        for place in (0, 63, 7 * k + 3):
+            yield [worst if t == place else 0 for t in range(64)]
+        yield [worst if t == 5 * k else e for t, e in enumerate(drawn[k])]
+    for one, other in ((-h, h - 1), (h - 1, -h), (-h, h), (h, -h), (-h, -h - 1), (-h - 1, -h)):
+        yield [one if t == 8 else other if t == 55 else e for t, e in enumerate(drawn[9])]
+    for alike in (*MARGIN[s], 0):
+        yield [alike] * 64
+    yield from drawn
 
 
 for s in (1, 2, 3):
@@ -72,5 +102,14 @@ for s in (1, 2, 3):
             if message == bytes.fromhex(front) + bytes(n - len(front) // 2):
                 same(f"set {s} encode {front}", unwords(encoded)[: len(is_)], is_)
         lines.append(f"encode {s} {message.hex()} {digest(encoded)}")
+
+    h = 2 ** (D[s] - B[s] - 1)
+    for entries in around(s):
+        size, answer = max(abs(e) for e in entries), kept(s, entries)
+        same(f"set {s} noise {entries}", answer, all(-h <= e < h for e in entries))
+        worst = [e for e in entries if abs(e) == size]
+        if len(worst) == 1 and worst[0] in MARGIN[s]:
+            same(f"set {s} worst entry {worst[0]}", (size, answer), MARGIN[s][worst[0]])
+        lines.append(f"margin {s} {words(e % 2 ** D[s] for e in entries).hex()} {size.to_bytes(2, 'big').hex()}{answer:02x}")
 
 write("replay_parts/data/parts.txt", lines)

@@ -1,16 +1,17 @@
--- Numbers on each side of an edge (docs/RULES.md, 5): those of packing, encoding, decoding and sampling, as one table. Every number marked * there is here, and
--- the unmarked ones beside them.
+-- Numbers on each side of an edge (docs/RULES.md, 5): those of packing, encoding, decoding, sampling and the margin's verdict, as one table. Every number marked *
+-- there is here, and the unmarked ones beside them.
 -- Assumes nothing.
-use mathlib.Core.Bool.{Bool, true, false, _&&_}
-use mathlib.Core.List.{List, [], _∷_}
+use mathlib.Core.Bool.{Bool, true, false, _&&_, Bool·beq}
+use mathlib.Core.List.{List, [], _∷_, _++_}
 use Prim.Native.Nat.{ℕ}
 use lib.Dec.{eqb}
 use lib.ListN.{replicate}
 use Rattle.sets.specs.Sets.{frodo640, frodo976, frodo1344}
 use Rattle.sets.specs.declared.Params.{Params}
 use Rattle.codec.specs.Pack.{packed}
-use Rattle.message.specs.Message.{groupOf, encoded}
+use Rattle.message.specs.Message.{half, groupOf, encoded}
 use Rattle.noise.specs.Noise.{sampled, tableOf}
+use Rattle.scheme.specs.Margin.{largestSize, keptBy}
 
 -- what is asked of a set, and the answer
 pub data Case : Type 0 where
@@ -18,6 +19,7 @@ pub data Case : Type 0 where
   encode : Params → List ℕ → List ℕ → Case
   decode : Params → ℕ → ℕ → Case
   sample : Params → ℕ → ℕ → Case
+  judge : Params → List ℕ → ℕ → Bool → Case
 
 -- two lists agree
 unfoldable pub same : List ℕ → List ℕ → Bool
@@ -32,11 +34,16 @@ holds (pack p ws bs) = same (packed (p .d) ws) bs
 holds (encode p msg ws) = same (encoded (p .q) (p .b) msg) ws
 holds (decode p x m) = eqb (groupOf (p .q) (p .b) x) m
 holds (sample p r x) = eqb (sampled (tableOf (p .chi)) r) x
+holds (judge p ws size kept) = eqb (largestSize (p .q) ws) size && Bool·beq (keptBy (p .q) (half (p .q) (p .b)) ws) kept
 
 -- every case holds
 unfoldable pub all : List Case → Bool
 all [] = true
 all (c ∷ cs) = holds c && all cs
+
+-- 64 words of noise, the last of which is this one and the others 0
+abbrev pub worst : ℕ → List ℕ
+worst x = replicate 63 0 ++ (x ∷ [])
 
 -- the rules' numbers, in their order
 unfoldable pub cases : List Case
@@ -67,4 +74,16 @@ cases =
     ∷ sample frodo640 65535 65524
     ∷ sample frodo976 65535 65526
     ∷ sample frodo1344 65535 65530
+    ∷ judge frodo640 (worst 28672) 4096 true
+    ∷ judge frodo640 (worst 4096) 4096 false
+    ∷ judge frodo640 (worst 28671) 4097 false
+    ∷ judge frodo640 (worst 4095) 4095 true
+    ∷ judge frodo976 (worst 61440) 4096 true
+    ∷ judge frodo976 (worst 4096) 4096 false
+    ∷ judge frodo976 (worst 61439) 4097 false
+    ∷ judge frodo976 (worst 4095) 4095 true
+    ∷ judge frodo1344 (worst 63488) 2048 true
+    ∷ judge frodo1344 (worst 2048) 2048 false
+    ∷ judge frodo1344 (worst 63487) 2049 false
+    ∷ judge frodo1344 (worst 2047) 2047 true
     ∷ []

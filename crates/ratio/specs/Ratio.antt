@@ -22,6 +22,11 @@ pub record Exact (size h : ℕ) (r : Float) : Type 0 where
   pub is : r ≡ ratioOf size h
   pub exact : HasValue r false size h
 
+-- a size of h itself, which noise with a worst entry of -h or of h has: 1.0
+pub one : (ratioOf 4096 4096 ≡ fin false 1 (pos 0)) × (ratioOf 2048 2048 ≡ fin false 1 (pos 0))
+unfolding ratioOf round
+one = (refl, refl)
+
 -- the far end of set 1: 16384 over 4096 is 4.0
 pub four : ratioOf 16384 4096 ≡ fin false 1 (pos 2)
 unfolding ratioOf round

@@ -267,22 +267,23 @@ fn over(size: u32, h: u32, ratio: f64) -> bool {
     ratio * h as f64 == size as f64
 }
 
-// What a margin says of its size.
-fn margin_is(margin: Margin, size: u32, h: u32) -> u32 {
+// Size, ratio and verdict.
+fn margin_is(margin: Margin, size: u32, h: u32, kept: bool) -> u32 {
     let a = unless(margin.size == size, SIZE);
     let b = unless(over(size, h, margin.ratio), RATIO);
-    let c = unless(margin.kept == (size < h), VERDICT);
+    let c = unless(margin.kept == kept, VERDICT);
     first(a, first(b, c))
 }
 
-// A margin: SIZE.
+// A margin: SIZE KEPT.
 fn margin_in(line: &[u8], seed: &[u8], msg: &[u8], salt: &[u8]) -> u32 {
     let mut noise = [0xa5a5u16; 21568];
     let mut work = [0xa5a5u16; 23104];
     let set = number_in(line, 0);
     let margin = frodo::margin(set, seed, msg, salt, &mut noise, &mut work);
     let answer = margin.answer;
-    let a = margin_is(margin, large_in(line, 4), half(set));
+    let kept = byte_in(line, 5) == 1;
+    let a = margin_is(margin, large_in(line, 4), half(set), kept);
     first(done(set, answer, &noise, &work), a)
 }
 

@@ -1,4 +1,6 @@
-// Replays the oracle's answers for sampling, message coding and packing, and the numbers on each side of an edge (docs/RULES.md, 5). Prints how many agree.
+// Replays the oracle's answers for sampling, message coding and packing, the numbers on each side of an edge (docs/RULES.md, 5), and verdicts on noise whose worst entry
+// lies around an end of the range. Prints how many agree.
+use ratio::Margin;
 use replay::Tally;
 use sets::Chi;
 use sets::Chosen;
@@ -19,6 +21,7 @@ enum Kind {
     Pack,
     Unpack,
     Encode,
+    Margin,
     Other,
 }
 
@@ -31,7 +34,8 @@ fn number(kind: Kind) -> u8 {
         Kind::Pack => 4,
         Kind::Unpack => 5,
         Kind::Encode => 6,
-        Kind::Other => 7,
+        Kind::Margin => 7,
+        Kind::Other => 8,
     }
 }
 
@@ -56,6 +60,9 @@ fn kind_of(name: &[u8]) -> Kind {
     }
     if check::same(name, b"encode") {
         return Kind::Encode;
+    }
+    if check::same(name, b"margin") {
+        return Kind::Margin;
     }
     Kind::Other
 }
@@ -207,6 +214,53 @@ fn encode(p: Params, input: &[u8], expected: &[u8]) -> bool
     replay_answers::words_digest_to(&words, &mut bytes, expected)
 }
 
+// Whether the message of zeros, whose words are zeros, is decoded from what noise makes of them.
+fn comes_back(p: Params, words: &[u16], message: &mut [u8]) -> bool
+    requires { ⌜ Valid p × (length (now words) ≡ 64) × (length (now message) ≡ p .secret) ⌝ }
+{
+    let zeros = [0u8; 32];
+    let size = p.secret;
+    message::decode_message(p.q, p.b, words, message);
+    check::same(message, &zeros[0..size])
+}
+
+// Whether this is the listed margin, SIZE in two bytes, the higher first, and KEPT, and a message comes back just where it is kept. The product of the ratio and h is
+// exact, since h is a power of two.
+fn margin_is(margin: Margin, h: u32, back: bool, expected: &[u8]) -> bool {
+    if expected.len() != 3 {
+        return false;
+    }
+    let size = words::word(expected[1], expected[0]) as u32;
+    let kept = expected[2] == 1;
+    let over = margin.ratio * h as f64 == size as f64;
+    (margin.size == size) & over & (margin.kept == kept) & (back == kept)
+}
+
+// Words of noise mod q, judged and decoded.
+fn judged(p: Params, words: &mut [u16], message: &mut [u8], expected: &[u8]) -> bool
+    requires { ⌜ Valid p × (length (now words) ≡ 64) × (length (now message) ≡ p .secret) ⌝ }
+{
+    let b = p.b;
+    let h = p.q >> (b + 1);
+    words::mask_words(words, rows::mask(p));
+    let margin = ratio::margin_of(p.q, h, words);
+    margin_is(margin, h, comes_back(p, words, message), expected)
+}
+
+// 64 words of noise.
+fn margin(p: Params, input: &[u8], expected: &[u8]) -> bool
+    requires { ⌜ Valid p ⌝ }
+{
+    if input.len() != 128 {
+        return false;
+    }
+    let mut words = [0u16; 64];
+    let mut message = [0xa5u8; 32];
+    let size = p.secret;
+    words::words_of(input, &mut words);
+    judged(p, &mut words, &mut message[0..size], expected)
+}
+
 // One line's input and answer. The lines on every word have the answer alone, as their third field.
 fn agrees(p: Params, kind: Kind, third: &[u8], fourth: &[u8]) -> bool
     requires { ⌜ Valid p ⌝ }
@@ -220,6 +274,7 @@ fn agrees(p: Params, kind: Kind, third: &[u8], fourth: &[u8]) -> bool
         Kind::Pack => pack(p, third, fourth),
         Kind::Unpack => unpack(p, third, fourth),
         Kind::Encode => encode(p, third, fourth),
+        Kind::Margin => margin(p, third, fourth),
         Kind::Other => false,
     }
 }
@@ -229,7 +284,7 @@ fn line_agrees(line: &[u8], kind: Kind) -> bool {
     let Chosen::Known(p) = sets::choose(replay::number_in(line, 1)) else {
         return false;
     };
-    let mut third = [0u8; 64];
+    let mut third = [0u8; 128];
     let mut fourth = [0u8; 64];
     let n = replay::bytes_in(line, 2, &mut third);
     let m = replay::bytes_in(line, 3, &mut fourth);
@@ -270,6 +325,7 @@ fn report(text: &[u8]) {
     replay::report(b"eight words packed", lines(text, Kind::Pack));
     replay::report(b"eight words unpacked", lines(text, Kind::Unpack));
     replay::report(b"messages encoded", lines(text, Kind::Encode));
+    replay::report(b"verdicts on noise", lines(text, Kind::Margin));
     replay::report(b"other lines", lines(text, Kind::Other));
 }
 

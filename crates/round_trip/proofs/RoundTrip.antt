@@ -11,13 +11,13 @@ use Rattle.sets.specs.declared.Answer.the-variants.{Done}
 use Rattle.message.specs.Message.{groupsOf}
 use Rattle.scheme.specs.Demand3.{recoveredMessage, recoveredSecret}
 use Rattle.scheme.specs.Margin.{kept}
-use Rattle.scheme.proofs.Margin.{kept-in-range}
+use Rattle.scheme.proofs.Margin.{kept-is-range, kept-in-range}
 use Rattle.frodo.specs.Keypair.{KeypairLent}
 use Rattle.frodo.specs.Encaps.{EncapsLent}
 use Rattle.frodo.specs.Decaps.{DecapsLent, DecapsLeft, decapsDone, decapsLeaves, DecapsSecretLent, DecapsSecretLeft, decapsSecretDone, decapsSecretLeaves}
 use Rattle.frodo.specs.Margin.{MarginLent, MarginLeft, marginLeaves}
 use Rattle.frodo.proofs.DoneWhen.{decaps-done-when, decaps-done-left, decaps-secret-done-when, decaps-secret-done-left, margin-done-left}
-use Rattle.round_trip.specs.RoundTrip.{Trip, SecretTrip, ComesBack, RoundTrip, SecretRoundTrip, Measured, KeptComesBack}
+use Rattle.round_trip.specs.RoundTrip.{Trip, SecretTrip, ComesBack, RoundTrip, SecretRoundTrip, Measured, KeptComesBack, KeptExactly}
 use Rattle.round_trip.proofs.Sealed.{shared-is, law, opens-to-message, opens-to-secret, fits, secret-sized, sized}
 
 -- ---- decapsulation
@@ -80,3 +80,9 @@ kept-comes-back k e d m trip bytes asked is =
     let comes = round-trip k e d trip bytes in
     let message = comes .message .1 (kept-in-range (paramsOf (k .set)) (k .seed) (e .msg) (e .salt) (sym (verdict-is asked) ∙ is)) in
     (message, comes .secret message)
+
+pub kept-exactly-back : KeptExactly
+kept-exactly-back k e d m trip bytes asked = (
+  λ is. kept-comes-back k e d m trip bytes asked is .0,
+  λ back. verdict-is asked ∙ kept-is-range (paramsOf (k .set)) (k .seed) (e .msg) (e .salt) .1 (round-trip k e d trip bytes .message .0 back),
+)

@@ -92,3 +92,8 @@ pub record Measured (k : KeypairLent) (e : EncapsLent) (m : MarginLent) : Type 0
 abbrev pub KeptComesBack : Type 0
 KeptComesBack = (k : KeypairLent) (e : EncapsLent) (d : DecapsLent) (m : MarginLent) → Trip k e d → Below 256 (e .msg) → Measured k e m
     → marginLeaves m .margin .kept ≡ true → (decapsLeaves d .msg ≡ e .msg) × (decapsLeaves d .ss ≡ encapsLeaves e .ss)
+
+-- and it says kept exactly where the message that decapsulation leaves is the sealed one
+abbrev pub KeptExactly : Type 0
+KeptExactly = (k : KeypairLent) (e : EncapsLent) (d : DecapsLent) (m : MarginLent) → Trip k e d → Below 256 (e .msg) → Measured k e m
+    → (marginLeaves m .margin .kept ≡ true) ↔ (decapsLeaves d .msg ≡ e .msg)

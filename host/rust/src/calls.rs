@@ -35,7 +35,8 @@ pub struct Margin {
     pub size: u32,
     /// That size over h = q/2^(B+1), exactly.
     pub ratio: f64,
-    /// The size is below h: decapsulation gives the message back.
+    /// Every centred entry is at least -h and less than h. That is so if and only if decapsulation gives the message back; then it gives encapsulation's secret, too. Kept goes with
+    /// every size below h and with none above it; of a size of h itself, a ratio of 1.0, noise with an entry of h is lost, and noise whose worst entry is -h is kept.
     pub kept: bool,
 }
 

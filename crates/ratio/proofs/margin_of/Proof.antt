@@ -1,22 +1,21 @@
--- `ratio::margin_of` meets its contract: the measure of the largest size.
+-- `ratio::margin_of` meets its contract: the measure of the largest size, with the verdict on all words.
 -- Assumes nothing.
 use borrow.Author.Needs.{needs}
-use mathlib.Core.Path.{subst}
+use mathlib.Core.Path.{_≡_, subst}
+use mathlib.Core.Bool.{Bool}
 use Prim.Native.Nat.{ℕ}
-use lib.Dec.{ltb}
-use Rattle.scheme.specs.Margin.{keptBy}
 use Rattle.ratio.specs.Answered.{Measured}
+use Rattle.ratio.specs.declared.Margin.{Margin}
 use Rattle.ratio.proofs.margin_of.Statement.{statement}
 use Rattle.ratio.proofs.margin_of.Tie as tie
 
-returns : tie.Need-returns
-unfolding keptBy
-returns c =
-    let h = c .before .before .before .args .h in
-    subst (λ (size : ℕ). Measured size h (ltb size h) (c .measured .result)) (c .before .largest-size .ensures) (c .measured .ensures)
+-- what was measured, by other names of the size and the verdict
+named : {size size' h : ℕ} {kept kept' : Bool} {r : Margin} → size ≡ size' → kept ≡ kept' → Measured size h kept r → Measured size' h kept' r
+named {size} {size'} {h} {kept} {kept'} {r} e f m = subst (λ (s : ℕ). Measured s h kept' r) e (subst (λ (b : Bool). Measured size h b r) f m)
 
 pub margin-of-spec : {M : Type 1} → statement M
 margin-of-spec = tie.close (tie.spec
     (λ c κs. search needs)
     (λ c κs. search needs)
-    returns)
+    (λ c κs. search needs)
+    (λ c. named (c .before .before .largest-size .ensures) (c .before .all-in-range .ensures) (c .measured .ensures)))

@@ -91,7 +91,8 @@ pub const MARGIN: Command = Command {
     name: "margin",
     about: "says how far the noise of a seed, a message and a salt is from spoiling the message",
     usage: &["--seed FILE --message FILE --salt FILE"],
-    details: "",
+    details: "Kept or lost: kept if and only if every entry of the noise is at least -h and less than h, and so if and only if the message comes back when its report is opened. \
+        At a ratio of exactly 1.0 it is either: an entry of -h spoils nothing, and one of h does.",
     flags: &[SET, input("--seed", "the key seed"), input("--message", "the message"), input("--salt", "the salt"), JSON],
     run: margin,
 };
@@ -191,7 +192,7 @@ fn open(given: &Given) -> Result<Answer, Failure> {
 /// A ratio of 0 to 1 and beyond as 40 cells.
 fn bar(ratio: f64) -> String {
     let filled = (0..40).filter(|&cell| ratio * 40.0 > f64::from(cell)).count();
-    format!("[{}{}]{}", "#".repeat(filled), ".".repeat(40 - filled), if ratio >= 1.0 { " beyond" } else { "" })
+    format!("[{}{}]{}", "#".repeat(filled), ".".repeat(40 - filled), if ratio > 1.0 { " beyond" } else { "" })
 }
 
 /// The margin as text: four lines and a verdict.
@@ -199,7 +200,7 @@ pub fn margin_text(set: &Set, found: &Margin) -> String {
     let verdict = if found.kept {
         "kept: message and secret come back (kept-back, crates/scheme/proofs/Margin.antt)"
     } else {
-        "lost: an entry has h or more; it spoils the message unless it is exactly -h (third-demand, crates/scheme/proofs/Demand3.antt)"
+        "lost: an entry is less than -h, or h or more: the message does not come back (kept-exactly, crates/scheme/proofs/Margin.antt)"
     };
     format!("largest of the 64 entries {:>7}\nlimit h {:>25}\nratio {:>27}\n0 {} h\n{verdict}\n", found.size, set.half(), found.ratio, bar(found.ratio))
 }
@@ -238,15 +239,22 @@ mod tests {
         assert_eq!(bar(0.0), format!("[{}]", ".".repeat(40)));
         assert_eq!(bar(0.5), format!("[{}{}]", "#".repeat(20), ".".repeat(20)));
         assert_eq!(bar(0.999), format!("[{}]", "#".repeat(40)));
+        assert_eq!(bar(1.0), format!("[{}]", "#".repeat(40)));
         assert_eq!(bar(4.0), format!("[{}] beyond", "#".repeat(40)));
     }
 
     #[test]
     fn a_lost_margin_has_its_status() {
         let set = sets::all()[2];
-        let lost = margin_answer(&set, &Margin { size: 2048, ratio: 1.0, kept: false });
-        assert!(lost.status == Status::Spoiled && lost.text.contains("lost"));
-        let kept = margin_answer(&set, &Margin { size: 2047, ratio: 2047.0 / 2048.0, kept: true });
-        assert!(kept.status == Status::Done && kept.text.contains("kept"));
+        let answer = |size: u32, kept| margin_answer(&set, &Margin { size, ratio: f64::from(size) / 2048.0, kept });
+        // the verdict is the library's: a size of h goes with either
+        for size in [2048, 2049] {
+            let lost = answer(size, false);
+            assert!(lost.status == Status::Spoiled && lost.text.contains("\nlost: ") && lost.text.contains("kept-exactly"));
+        }
+        for size in [2047, 2048] {
+            let kept = answer(size, true);
+            assert!(kept.status == Status::Done && kept.text.contains("\nkept: ") && !kept.text.contains("beyond"));
+        }
     }
 }

@@ -338,7 +338,7 @@ mod compare {
                     fail(&here, format!("size {}, {way} {size}", m.size));
                 }
             }
-            if m.ratio != f64::from(m.size) / h || m.kept != u32::from(f64::from(m.size) < h) {
+            if m.ratio != f64::from(m.size) / h {
                 fail(&here, format!("{m:?} with h = {h}"));
             }
             largest = largest.max(m.size);
@@ -368,6 +368,10 @@ mod compare {
                     count.secrets_only += 1;
                 }
                 if kind == 0 {
+                    let back = *their_message == *message;
+                    if m.kept != u32::from(back) {
+                        fail(&here, format!("{m:?}, and frodo-kem-rs {} the message back", if back { "gives" } else { "does not give" }));
+                    }
                     same(&here, "secret, and that of encapsulation", &my_ss, &ss);
                     same(&here, "message, and that which was sealed", &my_message, &message);
                 }
@@ -383,7 +387,7 @@ mod compare {
         }
 
         let mut lines = vec![
-            format!("set {number}: {seeds} seeds: key pairs, ciphertexts and secrets agree; margin sizes agree with two other computations, the largest {largest}"),
+            format!("set {number}: {seeds} seeds: key pairs, ciphertexts and secrets agree; margin sizes agree with two other computations, the largest {largest}, and verdicts with decapsulation"),
             format!("  {:24} {:>12} {:>14} {:>9}", "kind", "decapsulate", "shared secret", "accepted"),
         ];
         for (k, count) in counts.iter().enumerate() {

@@ -1,6 +1,6 @@
 //! The verdict, as a function of the facts alone.
 use super::facts::{closeness, counts, Closeness, Facts, Message, Part, Salt, WithoutInputs};
-use super::finding::{Finding, Verdict, Weight, ACCEPTED, ENCAPS_ONE, KEPT_BACK, KEY_PASSES, RESEALED, THIRD_DEMAND};
+use super::finding::{Finding, Verdict, Weight, ACCEPTED, ENCAPS_ONE, KEPT_BACK, KEPT_EXACTLY, KEY_PASSES, RESEALED, THIRD_DEMAND};
 use super::{key, length};
 use crate::failure::Status;
 use crate::sets::Set;
@@ -11,7 +11,7 @@ pub fn judge(set: &Set, facts: &Facts) -> Finding {
     let tried = &facts.tried;
     let near = closeness(&tried.parts);
     let fits = facts.inputs.seed || facts.check.as_ref().is_some_and(|check| check.pkh_fits);
-    let contradicted = near == Closeness::Same && (fits && tried.message_back && !tried.secret_back || !tried.message_back && kept(facts) == Some(true));
+    let contradicted = near == Closeness::Same && (fits && tried.message_back && !tried.secret_back || kept(facts) == Some(!tried.message_back));
     let finding = match near {
         Closeness::Same if contradicted => contradiction(),
         Closeness::Same if tried.message_back => whole(facts),
@@ -64,7 +64,7 @@ fn noise(facts: &Facts, finding: Finding) -> Finding {
     match kept(facts) {
         None => finding,
         Some(true) => finding.because(Proved(KEPT_BACK), "The margin is kept: noise cannot spoil this message. Undamaged, it comes back, and its secret with it."),
-        Some(false) => finding.because(Seen, "The margin is lost: undamaged, too, this message would be spoiled by noise, unless the largest entry is exactly -h."),
+        Some(false) => finding.because(Proved(KEPT_EXACTLY), "The margin is lost: undamaged, too, this message does not come back. Noise spoils it."),
     }
 }
 
@@ -100,7 +100,7 @@ fn spoiled(facts: &Facts) -> Finding {
     Finding::new(Verdict::Spoiled, headline)
         .because(Seen, format!("Sealing {} gives these very bytes, and the seed's key opens them to another message.", sealing(facts)))
         .because(Proved(THIRD_DEMAND), "The message comes back if and only if every entry of the noise is in range: here one is not. Nothing else can be the cause.")
-        .because_if(kept(facts) == Some(false), Seen, "The margin says so too: lost.")
+        .because_if(kept(facts) == Some(false), Proved(KEPT_EXACTLY), "The margin says so too: lost.")
 }
 
 /// The same without a seed: the key file's S fits its public key.
@@ -248,7 +248,7 @@ fn undecided(facts: &Facts) -> Finding {
 fn contradiction() -> Finding {
     Finding::new(Verdict::Undecided, "What was seen contradicts a theorem: the machine or this program is at fault.")
         .because(Proved(THIRD_DEMAND), "A report that is what sealing makes, under a key as it was generated, opens to its secret wherever its message comes back.")
-        .because(Proved(KEPT_BACK), "And its message comes back wherever the margin is kept.")
+        .because(Proved(KEPT_EXACTLY), "And its message comes back if and only if the margin is kept.")
         .because(Next, "Run it again, on another machine.")
 }
 
@@ -334,7 +334,7 @@ mod tests {
         (f.tried.message_back, f.tried.secret_back, f.tried.opens_message, f.tried.opens_secret, f.margin) = (false, false, false, false, LOST);
         let finding = verdict(&f);
         assert!(finding.verdict == Verdict::Spoiled && finding.status == Status::Spoiled && finding.known && cites(&finding, THIRD_DEMAND));
-        assert!(says(&finding, Seen, "lost"));
+        assert!(cites(&finding, KEPT_EXACTLY));
         // the same without the seed: the key file's S fits its public key, so that it is not the cause
         (f.inputs.seed, f.key_file, f.margin) = (false, None, None);
         let finding = verdict(&f);
@@ -355,6 +355,9 @@ mod tests {
         let mut f = with_seed();
         (f.tried.message_back, f.tried.secret_back) = (false, false);
         assert!(verdict(&f).headline.contains("contradicts a theorem"), "kept, and the message did not come back");
+        let mut f = with_seed();
+        f.margin = LOST;
+        assert!(verdict(&f).headline.contains("contradicts a theorem"), "lost, and the message came back");
         let mut f = with_seed();
         f.tried.secret_back = false;
         let finding = verdict(&f);
@@ -383,7 +386,7 @@ mod tests {
         let finding = verdict(&f);
         assert!(finding.status == Status::Damaged && cites(&finding, ENCAPS_ONE) && cites(&finding, KEPT_BACK) && !cites(&finding, RESEALED));
         f.margin = LOST;
-        assert!(says(&verdict(&f), Seen, "undamaged, too"));
+        assert!(says(&verdict(&f), Proved(KEPT_EXACTLY), "undamaged, too"));
         // nearly all of it is lost, and what is left is still no chance
         f.tried.parts[0].differ = 950;
         assert!(verdict(&f).status == Status::Damaged && verdict(&f).known);
