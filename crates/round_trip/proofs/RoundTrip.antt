@@ -16,9 +16,9 @@ use Rattle.frodo.specs.Keypair.{KeypairLent}
 use Rattle.frodo.specs.Encaps.{EncapsLent}
 use Rattle.frodo.specs.Decaps.{DecapsLent, DecapsLeft, decapsDone, decapsLeaves, DecapsSecretLent, DecapsSecretLeft, decapsSecretDone, decapsSecretLeaves}
 use Rattle.frodo.specs.Margin.{MarginLent, MarginLeft, marginLeaves}
-use Rattle.frodo.proofs.DoneWhen.{decaps-done-when, decaps-done-left, decaps-secret-done-when, decaps-secret-done-left, margin-done-left}
-use Rattle.round_trip.specs.RoundTrip.{Trip, SecretTrip, ComesBack, RoundTrip, SecretRoundTrip, Measured, KeptComesBack, KeptExactly}
-use Rattle.round_trip.proofs.Sealed.{shared-is, law, opens-to-message, opens-to-secret, fits, secret-sized, sized}
+use Rattle.frodo.proofs.DoneWhen.{decaps-done-when, decaps-done-left, decaps-secret-done-when, decaps-secret-done-left, margin-done-when, margin-done-left}
+use Rattle.round_trip.specs.RoundTrip.{Trip, SecretTrip, ComesBack, RoundTrip, SecretRoundTrip, Measured, KeptComesBack, MeasuredWhen, KeptExactly}
+use Rattle.round_trip.proofs.Sealed.{shared-is, law, opens-to-message, opens-to-secret, margin-fits, fits, secret-sized, sized}
 
 -- ---- decapsulation
 
@@ -80,6 +80,9 @@ kept-comes-back k e d m trip bytes asked is =
     let comes = round-trip k e d trip bytes in
     let message = comes .message .1 (kept-in-range (paramsOf (k .set)) (k .seed) (e .msg) (e .salt) (sym (verdict-is asked) ∙ is)) in
     (message, comes .secret message)
+
+pub measured-when : MeasuredWhen
+measured-when k e m made one-set seed msg salt scratch = record { one-set = one-set; seed = seed; msg = msg; salt = salt; done = margin-done-when m .1 (margin-fits made m one-set seed msg salt scratch) }
 
 pub kept-exactly-back : KeptExactly
 kept-exactly-back k e d m trip bytes asked = (

@@ -9,7 +9,7 @@ use Rattle.lists.specs.Lists.{Below}
 use Rattle.sets.specs.Sets.{known, paramsOf}
 use Rattle.sets.specs.declared.Params.{Params}
 use Rattle.sets.proofs.Facts.{valid}
-use Rattle.lengths.specs.Sized.{EncapsSized, DecapsSized, DecapsSecretSized}
+use Rattle.lengths.specs.Sized.{EncapsSized, DecapsSized, DecapsSecretSized, MarginSized, Scratch}
 use Rattle.scheme.specs.KeyGen.{publicKey, secretKey}
 use Rattle.scheme.specs.Encaps.{ciphertext, sharedSecret}
 use Rattle.scheme.specs.Decaps.{decapsMessage, decapsSecret}
@@ -19,7 +19,8 @@ use Rattle.scheme.proofs.Ciphertexts.{length-ciphertext}
 use Rattle.scheme.proofs.Demand3.{demand3}
 use Rattle.frodo.specs.Keypair.{KeypairLent, KeypairLeft, keypairDone, keypairLeaves}
 use Rattle.frodo.specs.Encaps.{EncapsLent, EncapsLeft, encapsDone, encapsLeaves}
-use Rattle.frodo.specs.DoneWhen.{Fits}
+use Rattle.frodo.specs.Margin.{MarginLent}
+use Rattle.frodo.specs.DoneWhen.{Fits, MarginFits}
 use Rattle.frodo.proofs.DoneWhen.{keypair-done-when, keypair-done-left, encaps-done-when, encaps-done-left}
 use Rattle.round_trip.specs.RoundTrip.{Sealed, Opens}
 
@@ -59,6 +60,15 @@ module _ {k : KeypairLent} {e : EncapsLent} (made : Sealed k e) where
   -- the third demand of this seed, message and salt
   pub law : Below 256 (e .msg) → Demand3 p (k .seed) (e .msg) (e .salt)
   law bytes = demand3 p (valid (k .set)) (k .seed) (e .msg) (e .salt) seed-long (sealed-sized .msg-long) bytes
+
+  -- number and lengths of a margin of the same seed, message and salt fit, once those of its scratches are said
+  pub margin-fits : (m : MarginLent) → m .set ≡ k .set → m .seed ≡ k .seed → m .msg ≡ e .msg → m .salt ≡ e .salt
+      → Scratch p (length (m .noise)) (length (m .work)) → MarginFits m
+  margin-fits m one-set seed msg salt scratch = record {
+    a-set = subst (λ (s : ℕ). known s ≡ true) (sym one-set) a-set;
+    sized = subst (λ (s : ℕ). MarginSized (paramsOf s) (length (m .seed)) (length (m .msg)) (length (m .salt)) (length (m .noise)) (length (m .work))) (sym one-set)
+        (record { valid = valid (k .set); seed-long = ap length seed ∙ seed-long; msg-long = ap length msg ∙ sealed-sized .msg-long; salt-long = ap length salt ∙ sealed-sized .salt-long; scratch = scratch });
+  }
 
   -- ---- what an opening is lent of them
 

@@ -93,6 +93,11 @@ abbrev pub KeptComesBack : Type 0
 KeptComesBack = (k : KeypairLent) (e : EncapsLent) (d : DecapsLent) (m : MarginLent) → Trip k e d → Below 256 (e .msg) → Measured k e m
     → marginLeaves m .margin .kept ≡ true → (decapsLeaves d .msg ≡ e .msg) × (decapsLeaves d .ss ≡ encapsLeaves e .ss)
 
+-- lent the same seed, message and salt, and two scratches of the set's lengths, it is done
+abbrev pub MeasuredWhen : Type 0
+MeasuredWhen = (k : KeypairLent) (e : EncapsLent) (m : MarginLent) → Sealed k e → m .set ≡ k .set → m .seed ≡ k .seed → m .msg ≡ e .msg → m .salt ≡ e .salt
+    → Scratch (paramsOf (k .set)) (length (m .noise)) (length (m .work)) → Measured k e m
+
 -- and it says kept exactly where the message that decapsulation leaves is the sealed one
 abbrev pub KeptExactly : Type 0
 KeptExactly = (k : KeypairLent) (e : EncapsLent) (d : DecapsLent) (m : MarginLent) → Trip k e d → Below 256 (e .msg) → Measured k e m
