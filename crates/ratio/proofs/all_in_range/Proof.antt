@@ -21,16 +21,25 @@ loop-holds : tie.Need-loop-holds Inv-loop μ-loop
 unfolding every
 loop-holds c = (omega arith, refl, refl)
 
+in-range-requires : tie.Need-in-range-requires Inv-loop μ-loop
+in-range-requires c κs =
+    let at-loop : tie.At-loop Inv-loop μ-loop = search in
+    let start : tie.Start Inv-loop μ-loop = search in
+    (start .pre .0, start .pre .1 (at-loop .loop .i))
+
 loop-again : tie.Need-loop-again Inv-loop μ-loop
 loop-again c =
-    let l = c .before .before .before .loop in
+    let at-loop : tie.At-loop Inv-loop μ-loop = search in
+    let l = at-loop .loop in
     (omega arith, l .inv .1, ap₂ (λ (a b : Bool). a && b) (l .inv .2) (c .in-range .ensures) ∙ sym (every-next (l .i) _))
 
 returns : tie.Need-returns Inv-loop μ-loop
 unfolding keptBy
 returns c =
-    let l = c .before .loop in
-    let a = c .before .before .before .args in
+    let at-loop : tie.At-loop Inv-loop μ-loop = search in
+    let start : tie.Start Inv-loop μ-loop = search in
+    let l = at-loop .loop in
+    let a = start .args in
     let end : l .i ≡ length (a .words .now) = omega arith in
     l .inv .2 ∙ ap (λ (n : ℕ). every n (λ t. inRange (a .h) (centred (a .q) (getD (a .words .now) t 0)))) end
 
@@ -43,7 +52,7 @@ all-in-range-spec =
     loop-holds
     (λ c. omega arith)
     (λ c. omega arith)
-    (λ c κs. let s = c .before .before .before .before in (s .pre .0, s .pre .1 (c .before .before .loop .i)))
+    in-range-requires
     (λ c. omega arith)
     (λ c. omega arith)
     loop-again

@@ -13,14 +13,16 @@ use Rattle.ratio.proofs.in_range.Tie as tie
 
 returns : tie.Need-returns
 returns c =
-    let a = c .before .args in
-    let even : a .q ≡ 2 * (a .q / 2) = omega (arith, c .before .pre .0) in
+    let start : tie.Start = search in
+    let a = start .args in
+    let even : a .q ≡ 2 * (a .q / 2) = omega (arith, start .pre .0) in
     sym (ap (λ (q : ℕ). inRange (a .h) (centred q (a .x))) even ∙ range-low (a .q / 2) (a .h) (a .x) (c .if1 .taken))
 
 returns-2 : tie.Need-returns-2
 returns-2 c =
-    let a = c .before .args in
-    let even : a .q ≡ 2 * (a .q / 2) = omega (arith, c .before .pre .0) in
+    let start : tie.Start = search in
+    let a = start .args in
+    let even : a .q ≡ 2 * (a .q / 2) = omega (arith, start .pre .0) in
     sym (ap (λ (q : ℕ). inRange (a .h) (centred q (a .x))) even ∙ range-high (a .q / 2) (a .h) (a .x) (omega arith) (omega arith) ∙ ap (λ (q : ℕ). leb (q - a .x) (a .h)) (sym even))
 
 pub in-range-spec : {M : Type 1} → statement M

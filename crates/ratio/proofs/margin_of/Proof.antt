@@ -13,9 +13,15 @@ use Rattle.ratio.proofs.margin_of.Tie as tie
 named : {size size' h : ℕ} {kept kept' : Bool} {r : Margin} → size ≡ size' → kept ≡ kept' → Measured size h kept r → Measured size' h kept' r
 named {size} {size'} {h} {kept} {kept'} {r} e f m = subst (λ (s : ℕ). Measured s h kept' r) e (subst (λ (b : Bool). Measured size h b r) f m)
 
+returns : tie.Need-returns
+returns c =
+    let judged : tie.After-all-in-range = search in
+    let sized : tie.After-largest-size = search in
+    named (sized .largest-size .ensures) (judged .all-in-range .ensures) (c .measured .ensures)
+
 pub margin-of-spec : {M : Type 1} → statement M
 margin-of-spec = tie.close (tie.spec
     (λ c κs. search needs)
     (λ c κs. search needs)
     (λ c κs. search needs)
-    (λ c. named (c .before .before .largest-size .ensures) (c .before .all-in-range .ensures) (c .measured .ensures)))
+    returns)
