@@ -1,4 +1,5 @@
-// Inside parts of the library, exported for `make bench` alone: the permutation, and the row engine of set 3.
+// Inside parts of the library, exported for `make bench` alone: the permutation, the row engine of set 3, and sampling.
+use sets::Chosen;
 use sets::Frodo1344Shake;
 ghost use mathlib.Core.Path.{_≡_};
 ghost use Prim.Native.Nat.{_*_};
@@ -39,4 +40,14 @@ pub extern "C" fn bench_sa(seed: &[u8], noise: &mut [u16], out: &mut [u16])
 {
     let p = Frodo1344Shake::params();
     products::mul_add_sa_plus_e_from_seed(p, seed, noise, out);
+}
+
+// Each word becomes the sample that it draws in a set, stored mod 2^16.
+#[no_mangle]
+pub extern "C" fn bench_samples(set: u32, words: &mut [u16]) {
+    let Chosen::Known(p) = sets::choose(set) else {
+        return;
+    };
+    let chi = p.chi;
+    hashes::store_samples(chi, words);
 }

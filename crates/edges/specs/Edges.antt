@@ -11,6 +11,7 @@ use Rattle.sets.specs.declared.Params.{Params}
 use Rattle.codec.specs.Pack.{packed}
 use Rattle.message.specs.Message.{half, groupOf, encoded}
 use Rattle.noise.specs.Noise.{sampled, tableOf}
+use Rattle.scheme.specs.Parts.{stored}
 use Rattle.scheme.specs.Margin.{largestSize, keptBy}
 
 -- what is asked of a set, and the answer
@@ -33,7 +34,7 @@ unfoldable pub holds : Case → Bool
 holds (pack p ws bs) = same (packed (p .d) ws) bs
 holds (encode p msg ws) = same (encoded (p .q) (p .b) msg) ws
 holds (decode p x m) = eqb (groupOf (p .q) (p .b) x) m
-holds (sample p r x) = eqb (sampled (tableOf (p .chi)) r) x
+holds (sample p r x) = eqb (stored (sampled (tableOf (p .chi)) r)) x
 holds (judge p ws size kept) = eqb (largestSize (p .q) ws) size && Bool·beq (keptBy (p .q) (half (p .q) (p .b)) ws) kept
 
 -- every case holds

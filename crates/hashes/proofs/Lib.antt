@@ -1,2 +1,3 @@
--- The laws that the hashes share.
+-- The laws that the hashes share, and those of a signed number as it is stored.
 pub mod Laws
+pub mod Words

@@ -1,17 +1,17 @@
--- The laws by which code without branches counts the entries below t and gives the count its sign.
+-- The laws by which code without branches counts the entries below t.
 -- Assumes nothing.
 use mathlib.Core.Path.{_≡_, refl, sym, ap, _∙_, subst}
 use mathlib.Core.Bool.{Bool, true, false}
 use mathlib.Core.List.{List, [], _∷_, _++_}
-use Prim.Native.Nat.{ℕ, zero, suc, _+_, _*_, _-_, _/_, _%_, _≤_, _<_}
-use native.Mathlib.Nat.{mul-le-mul-right, one-mul, le-of-suc-le-suc, not-suc-le-zero}
+use Prim.Native.Nat.{ℕ, _+_, _*_, _-_, _/_, _≤_, _<_}
+use native.Mathlib.Nat.{mul-le-mul-right, one-mul}
 use native.Mathlib.Numerals.{add-one}
 use native.Mathlib.Omega.{arith}
 use borrow.Author.Tests.{ltb-true, ltb-false}
 use lib.Dec.{ltb}
 use lib.ListN.{length, take, getD}
 use lib.Seq.{take-suc}
-use Rattle.noise.specs.Noise.{one, countBelow, signed}
+use Rattle.noise.specs.Noise.{one, countBelow}
 
 -- the carry of t + 65535 - x says whether x is below t
 pub carry : (x t : ℕ) → x < 65536 → t < 65536 → (t + 65535 - x) / 65536 ≡ one (ltb x t)
@@ -24,13 +24,6 @@ carry x t hx ht = cases (ltb x t) refl
 -- a factor of 0 or 1 makes nothing larger
 pub factor-le : (odd a : ℕ) → odd < 2 → odd * a ≤ a
 factor-le odd a h = subst (λ (n : ℕ). odd * a ≤ n) (one-mul a) (mul-le-mul-right a (omega arith))
-
--- of size and -size one counts, by a factor of 0 or 1 each
-pub either : (odd size : ℕ) → odd < 2 → size < 65536 → (odd * (65536 - size) + (1 - odd) * size) % 65536 ≡ signed odd size
-unfolding signed
-either zero size h l = omega arith
-either (suc zero) size h l = omega arith
-either (suc (suc odd)) size h l = absurd (not-suc-le-zero (le-of-suc-le-suc (le-of-suc-le-suc h)))
 
 -- the counts of two tables in a row add up
 count-append : (t : ℕ) (xs ys : List ℕ) → countBelow t (xs ++ ys) ≡ countBelow t xs + countBelow t ys

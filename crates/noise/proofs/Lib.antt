@@ -1,3 +1,4 @@
 -- The laws of sampling.
 pub mod Bounds
 pub mod Counts
+pub mod Signs

@@ -1,10 +1,10 @@
-// Sampling of noise (docs/RULES.md, 4.5): words of random bits become words of noise, in place, by the set's table. No word is branched on.
+// Sampling of noise (docs/RULES.md, 4.5): a word of random bits becomes a signed number, by the set's table. No word is branched on.
 ghost use mathlib.Core.Path.{_≡_};
-ghost use mathlib.Core.List.{map};
 ghost use Prim.Native.Nat.{_≤_, _<_};
 ghost use lib.Dec.{ltb};
+ghost use lib.IntN.{natAbs};
 ghost use lib.ListN.{length};
-ghost use Rattle.noise.specs.Noise.{one, signed, sampled, tableOf};
+ghost use Rattle.noise.specs.Noise.{one, signed, sampled, tableOf, largestOf};
 use sets::Chi;
 
 const FRODO640: [u16; 13] = [
@@ -46,20 +46,19 @@ fn below(entry: u16, t: u16) -> u16
     ((t as u32 + 65535 - entry as u32) / 65536) as u16
 }
 
-// size, or -size mod 2^16 where odd is 1.
-fn with_sign(odd: u16, size: u16) -> u16
-    requires { ⌜ odd < 2 ⌝ }
+// size, or -size where odd is 1.
+fn with_sign(odd: u16, size: u16) -> i16
+    requires { ⌜ (odd < 2) × (size < 32768) ⌝ }
     ensures { λ r. ⌜ r ≡ signed odd size ⌝ }
 {
-    let odd = odd as u32;
     let even = 1 - odd;
-    let plus = size as u32;
-    let minus = 65536 - plus;
-    ((odd * minus + even * plus) % 65536) as u16
+    let plus = even * size;
+    let minus = odd * size;
+    plus as i16 - minus as i16
 }
 
-// The noise of one word.
-fn sample_word(table: &[u16], r: u16) -> u16
+// The noise of one word, by a table.
+fn sample_word(table: &[u16], r: u16) -> i16
     requires { ⌜ (0 < length (now table)) × (length (now table) ≤ 16) ⌝ }
     ensures { λ x. ⌜ x ≡ sampled (now (table .entry)) r ⌝ }
 {
@@ -73,23 +72,13 @@ fn sample_word(table: &[u16], r: u16) -> u16
     with_sign(r % 2, size)
 }
 
-// The noise of each word.
-fn sample_words(table: &[u16], s: &mut [u16])
-    requires { ⌜ (0 < length (now table)) × (length (now table) ≤ 16) ⌝ }
-    ensures { λ _. ⌜ now (s .exit) ≡ map (sampled (now (table .entry))) (now (s .entry)) ⌝ }
-{
-    for i in 0..s.len() {
-        s[i] = sample_word(table, s[i]);
-    }
-}
-
-// The noise of each word, by the table of a distribution.
-pub fn sample(chi: Chi, s: &mut [u16])
-    ensures { λ _. ⌜ now (s .exit) ≡ map (sampled (tableOf chi)) (now (s .entry)) ⌝ }
+// The noise of one word, by the table of a distribution, and how large it can be.
+pub fn sample(chi: Chi, r: u16) -> i16
+    ensures { λ x. ⌜ (x ≡ sampled (tableOf chi) r) × (natAbs x ≤ largestOf chi) ⌝ }
 {
     match chi {
-        Chi::Frodo640 => sample_words(&FRODO640, s),
-        Chi::Frodo976 => sample_words(&FRODO976, s),
-        Chi::Frodo1344 => sample_words(&FRODO1344, s),
+        Chi::Frodo640 => sample_word(&FRODO640, r),
+        Chi::Frodo976 => sample_word(&FRODO976, r),
+        Chi::Frodo1344 => sample_word(&FRODO1344, r),
     }
 }

@@ -89,7 +89,7 @@ fn sampled(chi: Chi, words: &mut [u16], bytes: &mut [u8], expected: &[u8]) -> bo
     requires { ⌜ (length (now words) ≤ 65536) × (length (now bytes) ≡ 2 * length (now words)) ⌝ }
 {
     every_word(words);
-    noise::sample(chi, words);
+    hashes::store_samples(chi, words);
     replay_answers::words_digest_to(words, bytes, expected)
 }
 
@@ -140,7 +140,7 @@ fn one_sample(chi: Chi, input: &[u8], expected: &[u8]) -> bool {
     let mut words = [0u16; 1];
     let mut bytes = [0u8; 2];
     words::words_of(input, &mut words);
-    noise::sample(chi, &mut words);
+    hashes::store_samples(chi, &mut words);
     words_are(&words, &mut bytes, expected)
 }
 

@@ -17,7 +17,7 @@ use Rattle.codec.specs.Pack.{packed, unpacked}
 use Rattle.codec.proofs.RoundTrip.{unpack-pack}
 use Rattle.message.specs.Coding.{Coding}
 use Rattle.noise.specs.Noise.{sampled, tableOf}
-use Rattle.scheme.specs.Parts.{hash, noiseWords}
+use Rattle.scheme.specs.Parts.{hash, samples, stored, noiseWords}
 
 -- one of two numbers has what both have
 either : {x a b : ℕ} (P : ℕ → Type 0) → (x ≡ a) ⊎ (x ≡ b) → P a → P b → P x
@@ -51,7 +51,7 @@ module _ (p : Params) (valid : Valid p) where
   -- a word for each two bytes of a hash
   pub length-noise : (x : List ℕ) (k : ℕ) → length (noiseWords p (hash p x (2 * k))) ≡ k
   length-noise x k =
-      length-map (wordsOf (hash p x (2 * k))) (sampled (tableOf (p .chi))) ∙ length-words k (hash p x (2 * k)) (length-hash x (2 * k))
+      length-map (samples (p .chi) (wordsOf (hash p x (2 * k)))) stored ∙ length-map (wordsOf (hash p x (2 * k))) (sampled (tableOf (p .chi))) ∙ length-words k (hash p x (2 * k)) (length-hash x (2 * k))
 
   -- words that were packed come back mod q
   pub packed-back : (c : ℕ) (ws : List ℕ) → length ws ≡ 8 * c → unpacked (p .d) (packed (p .d) ws) ≡ residues (p .q) ws

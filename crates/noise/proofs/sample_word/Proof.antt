@@ -4,6 +4,7 @@ use Prim.Native.Nat.{ℕ, _≤_, _-_, _+_, _/_, _%_}
 use native.Mathlib.Omega.{arith}
 use mathlib.Core.Path.{_≡_, refl, ap, _∙_}
 use lib.ListN.{length, take}
+use mir.Facts.{toZ-ofZ}
 use Rattle.noise.specs.Noise.{countBelow, signed, sampled}
 use Rattle.noise.proofs.Counts.{count-more}
 use Rattle.noise.proofs.sample_word.Statement.{statement}
@@ -31,7 +32,7 @@ returns c =
     let l = c .before .before .loop in
     let a = c .before .before .before .before .args in
     let e : l .i ≡ length (a .table .now) - 1 = omega arith in
-    c .with-sign .ensures ∙ ap (signed (a .r % 2)) (l .inv .3 ∙ ap (λ (k : ℕ). countBelow (a .r / 2) (take k (a .table .now))) e)
+    toZ-ofZ (record { sfits = c .with-sign .ok }) ∙ c .with-sign .ensures ∙ ap (signed (a .r % 2)) (l .inv .3 ∙ ap (λ (k : ℕ). countBelow (a .r / 2) (take k (a .table .now))) e)
 
 pub sample-word-spec : {M : Type 1} → statement M
 sample-word-spec =

@@ -8,6 +8,7 @@ use crate::json::Json;
 use crate::kem::Kem;
 use crate::keyfile::KeyCheck;
 use crate::sets::{self, Kind, Set};
+use crate::theorems::{KEY_FITS, KEY_PASSES};
 use crate::Answer;
 
 pub const CHECK: Command = Command {
@@ -49,8 +50,8 @@ fn answer(set: &Set, name: &str, found: &KeyCheck, against: Option<&[Part]>) -> 
     };
     found.faults().iter().for_each(|fault| text += &format!("  {fault}\n"));
     let fits = |holds: bool| if holds { "fits" } else { "does not fit" };
-    text += &format!("  pkh {}: it is to be the hash of the public key\n", fits(found.pkh_fits));
-    text += &format!("  S   {}: it is to leave B - A*S small, and to be small itself\n", fits(found.s_fits()));
+    text += &format!("  pkh {}: it is to be the hash of the public key ({KEY_PASSES})\n", fits(found.pkh_fits));
+    text += &format!("  S   {}: it is to leave B - A*S small, and to be small itself: at most {} ({KEY_FITS})\n", fits(found.s_fits()), found.bound);
     text += "  s   cannot be checked: any bytes are a valid s\n";
     if let Some(parts) = against {
         text += &seed_text(found, parts);

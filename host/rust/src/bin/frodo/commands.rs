@@ -5,6 +5,7 @@ use crate::files::{self, File};
 use crate::json::Json;
 use crate::kem::Kem;
 use crate::sets::{self, Kind, Set};
+use crate::theorems::{KEPT_BACK, KEPT_EXACTLY, NOISE_SIZE, SAMPLE_SIZE};
 use crate::Answer;
 use stroupadal::Margin;
 
@@ -24,7 +25,17 @@ const fn random(about: &'static str) -> Flag {
     Flag { name: "--random", takes: Takes::Nothing, about }
 }
 
-pub const SETS: Command = Command { name: "sets", about: "lists the sets, their names and lengths", usage: &["[--json]"], details: "", flags: &[JSON], run: list };
+pub const SETS: Command = Command {
+    name: "sets",
+    about: "lists the sets, their names and lengths, and how large their noise can be",
+    usage: &["[--json]"],
+    details: "\
+The largest sample is the largest size that sampling answers, and the largest noise that of an entry of S'E + E'' - E'S before it is taken mod q; both are proved. An entry that
+is h or more, or less than -h, mod q and centred, spoils its bits of the message. The largest noise is more than h in every set, so that no seed is excluded by it; `frodo margin`
+says it of a seed, a message and a salt.",
+    flags: &[JSON],
+    run: list,
+};
 
 pub const KEYGEN: Command = Command {
     name: "keygen",
@@ -126,6 +137,11 @@ fn rows(set: &Set) -> [(&'static str, usize); 9] {
     ]
 }
 
+/// How large noise can be, and h.
+fn noise(set: &Set) -> [(&'static str, usize); 3] {
+    [("largest_sample", set.noise_bound() as usize), ("largest_noise", set.noise_most() as usize), ("h", set.half() as usize)]
+}
+
 fn list(_: &Given) -> Result<Answer, Failure> {
     let all = sets::all();
     let line = |title: String, cells: [String; 3]| format!("{title:22}{:>22}{:>22}{:>22}\n", cells[0], cells[1], cells[2]);
@@ -134,9 +150,13 @@ fn list(_: &Given) -> Result<Answer, Failure> {
         let unit = if name.ends_with("words") { "u16" } else { "bytes" };
         text += &line(format!("{}, {unit}", name.replace('_', " ")), all.map(|s| rows(&s)[row].1.to_string()));
     }
+    for (row, (name, _)) in noise(&all[0]).iter().enumerate() {
+        text += &line(name.replace('_', " "), all.map(|s| noise(&s)[row].1.to_string()));
+    }
+    text += &format!("largest sample: proved ({SAMPLE_SIZE})\nlargest noise: proved ({NOISE_SIZE}); more than h in every set, so that no seed is excluded by it\n");
     let object = |set: &Set| {
         let mut fields = set_fields(set).to_vec();
-        fields.extend(rows(set).map(|(name, length)| (name, Json::Count(length))));
+        fields.extend(rows(set).into_iter().chain(noise(set)).map(|(name, count)| (name, Json::Count(count))));
         Json::Object(fields)
     };
     Ok(Answer { status: Status::Done, text, json: vec![("sets", Json::List(all.iter().map(object).collect()))], outputs: vec![] })
@@ -198,9 +218,9 @@ fn bar(ratio: f64) -> String {
 /// The margin as text: four lines and a verdict.
 pub fn margin_text(set: &Set, found: &Margin) -> String {
     let verdict = if found.kept {
-        "kept: message and secret come back (kept-back, crates/scheme/proofs/Margin.antt)"
+        format!("kept: message and secret come back ({KEPT_BACK})")
     } else {
-        "lost: an entry is less than -h, or h or more: the message does not come back (kept-exactly, crates/scheme/proofs/Margin.antt)"
+        format!("lost: an entry is less than -h, or h or more: the message does not come back ({KEPT_EXACTLY})")
     };
     format!("largest of the 64 entries {:>7}\nlimit h {:>25}\nratio {:>27}\n0 {} h\n{verdict}\n", found.size, set.half(), found.ratio, bar(found.ratio))
 }

@@ -11,6 +11,7 @@ mod kem;
 mod keyfile;
 mod outputs;
 mod sets;
+mod theorems;
 
 use args::{Command, Given};
 use failure::{Failure, Status};

@@ -79,9 +79,15 @@ impl Set {
         }
     }
 
-    /// The largest size of a sampled entry.
+    /// The largest size of a sample: one for each entry of the table that is counted (docs/RULES.md, 4.5.3).
     pub fn noise_bound(&self) -> i32 {
         self.noise_table().len() as i32
+    }
+
+    /// The largest size that an entry of S'E + E'' - E'S can have, before it is taken mod q: 2n products of two samples, and a sample.
+    pub fn noise_most(&self) -> i32 {
+        let (n, bound) = (self.n as i32, self.noise_bound());
+        2 * n * bound * bound + bound
     }
 
     /// The spread of an entry of S'E + E'' - E'S, each word of these being drawn by the table.
@@ -227,6 +233,8 @@ mod tests {
         }
         assert_eq!(all().map(|s| s.half()), [4096, 4096, 2048]);
         assert_eq!(all().map(|s| s.noise_bound()), [12, 10, 6]);
+        assert_eq!(all().map(|s| s.noise_most()), [184332, 195210, 96774]);
+        assert!(all().iter().all(|s| s.noise_most() > s.half() as i32), "so that the bound excludes no seed");
         assert_eq!(all().map(|s| s.noise_spread().round() as u32), [283, 237, 106], "of 2.8, 2.3 and 1.4, drawn as whole numbers");
         assert_eq!(report_lengths().into_keys().collect::<Vec<_>>(), [9720, 9752, 15744, 15792, 21632, 21696]);
     }

@@ -1,5 +1,5 @@
-//! The row engine of set 3 beside the crate's own: all rows of A, A*S + E and S'*A + E', interleaved in one process, by thread CPU time, the least of
-//! many, as ratios. Built where BENCH_ARCHIVE is set.
+//! The row engine of set 3 beside the crate's own, all rows of A, A*S + E and S'*A + E', and the sampling of each set's noise: interleaved in one process, by thread CPU time,
+//! the least of many, as ratios. Built where BENCH_ARCHIVE is set.
 #[cfg(not(bench_archive))]
 fn main() {
     eprintln!("built without BENCH_ARCHIVE: nothing to compare");
@@ -21,6 +21,7 @@ mod bench {
         fn bench_rows(seed: *const u8, seed_len: usize, out: *mut u16, out_len: usize);
         fn bench_as(seed: *const u8, seed_len: usize, s: *const u16, s_len: usize, e: *const u16, e_len: usize, work: *mut u16, work_len: usize);
         fn bench_sa(seed: *const u8, seed_len: usize, noise: *mut u16, noise_len: usize, out: *mut u16, out_len: usize);
+        fn bench_samples(set: u32, words: *mut u16, words_len: usize);
     }
     extern "C" {
         fn clock_gettime(clock: i32, time: *mut [i64; 2]) -> i32;
@@ -85,5 +86,23 @@ mod bench {
             || kem.mul_add_sa_plus_e_from_seed(&seed, &s, &e, black_box(&mut c)),
         ));
         assert_eq!(out, c, "S'*A + E' parts from the crate's");
+        samples::<FrodoKem640Shake>(1, 640);
+        samples::<FrodoKem976Shake>(2, 976);
+        samples::<FrodoKem1344Shake>(3, 1344);
+    }
+
+    /// The noise of an encapsulation, 16n + 64 words, 50 times in a turn: neither side branches on a word, so that what was sampled can be sampled again.
+    fn samples<K: Kem>(set: u32, n: usize) {
+        let kem = K::default();
+        let mut ours: Vec<u16> = (0..16 * n + 64).map(|k| (40503 * k) as u16).collect();
+        let mut theirs = ours.clone();
+        unsafe { bench_samples(set, ours.as_mut_ptr(), ours.len()) }
+        kem.sample(&mut theirs);
+        assert_eq!(ours, theirs, "the samples of set {set} part from the crate's");
+        let found = least(
+            || (0..50).for_each(|_| unsafe { bench_samples(set, black_box(&mut ours).as_mut_ptr(), 16 * n + 64) }),
+            || (0..50).for_each(|_| kem.sample(black_box(&mut theirs))),
+        );
+        say(&format!("samples, {set}"), found);
     }
 }

@@ -1,5 +1,6 @@
 //! A verdict and its reasons: what was seen, what is proved, what is only likely, what stays open, and what to do next.
 use crate::failure::Status;
+use crate::theorems::Theorem;
 
 /// The answer to "was the report damaged, or did the noise spoil it?".
 #[derive(Clone, Copy, Debug, PartialEq, Eq)]
@@ -20,24 +21,6 @@ impl Verdict {
         }
     }
 }
-
-/// A theorem by its name and the file that proves it.
-#[derive(Clone, Copy, Debug, PartialEq, Eq)]
-pub struct Theorem {
-    pub name: &'static str,
-    pub file: &'static str,
-}
-
-pub const ACCEPTED: Theorem = Theorem { name: "accepted", file: "crates/scheme/proofs/Accepted.antt" };
-pub const THIRD_DEMAND: Theorem = Theorem { name: "third-demand", file: "crates/scheme/proofs/Demand3.antt" };
-pub const RESEALED: Theorem = Theorem { name: "resealed, resealed-secret", file: "crates/scheme/proofs/Consequences.antt" };
-pub const KEPT_BACK: Theorem = Theorem { name: "kept-back", file: "crates/scheme/proofs/Margin.antt" };
-pub const KEPT_EXACTLY: Theorem = Theorem { name: "kept-exactly", file: "crates/scheme/proofs/Margin.antt" };
-pub const KEY_PASSES: Theorem = Theorem { name: "key-passes", file: "crates/scheme/proofs/Keys.antt" };
-pub const ENCAPS_ONE: Theorem = Theorem { name: "encaps-one", file: "crates/frodo/proofs/One.antt" };
-
-#[cfg(test)]
-pub const THEOREMS: [Theorem; 7] = [ACCEPTED, THIRD_DEMAND, RESEALED, KEPT_BACK, KEPT_EXACTLY, KEY_PASSES, ENCAPS_ONE];
 
 /// How a statement is known.
 #[derive(Clone, Copy, Debug, PartialEq, Eq)]

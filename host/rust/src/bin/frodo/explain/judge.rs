@@ -1,9 +1,10 @@
 //! The verdict, as a function of the facts alone.
 use super::facts::{closeness, counts, Closeness, Facts, Message, Part, Salt, WithoutInputs};
-use super::finding::{Finding, Verdict, Weight, ACCEPTED, ENCAPS_ONE, KEPT_BACK, KEPT_EXACTLY, KEY_PASSES, RESEALED, THIRD_DEMAND};
+use super::finding::{Finding, Verdict, Weight};
 use super::{key, length};
 use crate::failure::Status;
 use crate::sets::Set;
+use crate::theorems::{ACCEPTED, ENCAPS_ONE, KEPT_BACK, KEPT_EXACTLY, KEY_PASSES, RESEALED, THIRD_DEMAND};
 use Weight::{Likely, Next, Open, Proved, Seen};
 
 /// The verdict.
@@ -255,10 +256,10 @@ fn contradiction() -> Finding {
 #[cfg(test)]
 mod tests {
     use super::super::facts::{Inputs, Tried};
-    use super::super::finding::{Theorem, THEOREMS};
     use super::*;
     use crate::keyfile::KeyCheck;
     use crate::sets;
+    use crate::theorems::{Theorem, KEY_FITS};
     use stroupadal::Margin;
 
     const KEPT: Option<Margin> = Some(Margin { size: 200, ratio: 200.0 / 2048.0, kept: true });
@@ -402,6 +403,7 @@ mod tests {
         (f.check, f.key_file) = (Some(BAD_S), Some(key_parts([0, 0, 0, 2, 0])));
         let finding = verdict(&f);
         assert!(finding.verdict == Verdict::Intact && finding.status == Status::KeyDamaged && says(&finding, Seen, "2 of 10240 bytes of S"));
+        assert!(cites(&finding, KEY_FITS) && !cites(&finding, KEY_PASSES));
         // B lost, and all else there: damaged, not another's
         (f.check, f.key_file) = (Some(NO_B), Some(key_parts([0, 0, 9600, 0, 0])));
         assert!(verdict(&f).status == Status::KeyDamaged && first(&verdict(&f), "The secret key file is damaged"));
@@ -481,17 +483,5 @@ mod tests {
         let mut f = facts();
         (f.found, f.tried.parts[2].missing) = (9751, 1);
         assert!(verdict(&f).status == Status::Damaged && verdict(&f).known && verdict(&f).headline.contains("1 bytes are missing"));
-    }
-
-    /// Every theorem that a verdict cites stands, by that name, in the file that it names.
-    #[test]
-    fn theorems_are_where_they_are_said_to_be() {
-        for theorem in THEOREMS {
-            let path = format!("{}/../../{}", env!("CARGO_MANIFEST_DIR"), theorem.file);
-            let text = std::fs::read_to_string(&path).unwrap_or_else(|error| panic!("{path}: {error}"));
-            for name in theorem.name.split(", ") {
-                assert!(text.contains(&format!("pub {name} :")), "{name} is not in {path}");
-            }
-        }
     }
 }

@@ -50,7 +50,7 @@ pub fn text(set: &Set, finding: &Finding, facts: &Facts) -> String {
     text += "\nwhy:\n";
     for (weight, reason) in &finding.reasons {
         let cited = match weight {
-            Weight::Proved(theorem) => format!("{reason} ({}, {})", theorem.name, theorem.file),
+            Weight::Proved(theorem) => format!("{reason} ({theorem})"),
             _ => reason.clone(),
         };
         let _ = write!(text, "  {:8}{}", weight.name(), wrapped(&cited, 10));
