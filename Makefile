@@ -166,8 +166,8 @@ other-processor:
 bench: dist/libfrodo_c.a
 	tests/prove/run build/prove.log check bench_c
 	host/c/archive bench_c $(call about,name) build/bench/libbench_c.a
-	tests/bench/run
 	BENCH_ARCHIVE=$(CURDIR)/build/bench FRODO_ARCHIVE=$(CURDIR)/dist tests/oracle/build
+	tests/bench/run
 	build/oracle/target/release/rows
 	build/oracle/target/release/calls
 

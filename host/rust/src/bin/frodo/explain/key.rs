@@ -57,10 +57,11 @@ pub fn faults(check: &KeyCheck) -> String {
     format!("The secret key file is damaged. What is: {}.", check.faults().join("; "))
 }
 
-/// With what is proved of a generated key, where S or B does not fit.
-fn unfit(check: &KeyCheck, finding: Finding) -> Finding {
-    let text = format!("In a generated key no word of S and no entry of B - A*S is larger than {}, the set's largest sample.", check.bound);
-    finding.because_if(!check.s_fits(), Proved(KEY_FITS), text)
+/// With the faults of a key file before all else, and behind them what is proved of a generated key where S or B does not fit.
+fn faulty(check: &KeyCheck, text: String, finding: Finding) -> Finding {
+    let proved = format!("In a generated key no word of S and no entry of B - A*S is larger than {}, the set's largest sample.", check.bound);
+    let finding = if check.s_fits() { finding } else { finding.first(Proved(KEY_FITS), proved) };
+    finding.first(Seen, text)
 }
 
 /// With what the key file and the seed tell. Where the file is the damaged one that is said first, and a report that is intact has the status of a bad key file.
@@ -90,7 +91,7 @@ fn alone(check: &KeyCheck, finding: Finding) -> Finding {
         let unsure = matches!(finding.verdict, Verdict::Undecided | Verdict::Spoiled);
         return finding.because_if(unsure, Seen, "The secret key file is whole, as far as its parts tell (`frodo check`).");
     }
-    unfit(check, bad_key(finding).first(Seen, faults(check)))
+    faulty(check, faults(check), bad_key(finding))
 }
 
 /// A report that is intact, and a key file that is not: that has a status of its own.
@@ -107,7 +108,7 @@ fn file_damaged(facts: &Facts, check: &KeyCheck, parts: &[Part], finding: Findin
     };
     let rests = if facts.inputs.seed { " The verdict rests on the seed's key." } else { "" };
     let text = format!("{} It differs from the seed's key in {}{opens}.{rests}", faults(check), counts(parts));
-    unfit(check, bad_key(finding).first(Seen, text)).because(Next, "`frodo keygen --seed` makes the key again: under a new name, and `frodo check` tells that it is whole.")
+    faulty(check, text, bad_key(finding)).because(Next, "`frodo keygen --seed` makes the key again: under a new name, and `frodo check` tells that it is whole.")
 }
 
 /// The report is the file's, and the seed was left out.
@@ -117,7 +118,7 @@ fn seed_of_another(check: &KeyCheck, parts: &[Part], finding: Finding) -> Findin
         _ => "The seed is of another key: it makes a wholly different one from the secret key file's",
     };
     let finding = finding.first(Seen, format!("{which}. The report was sealed to the file's key, and the seed was left out."));
-    let finding = if check.whole() { finding } else { unfit(check, bad_key(finding).first(Seen, faults(check))) };
+    let finding = if check.whole() { finding } else { faulty(check, faults(check), bad_key(finding)) };
     finding.because(Next, "Keep the secret key file: this seed does not make it again.")
 }
 
@@ -138,6 +139,6 @@ fn neither(relation: Relation, check: &KeyCheck, finding: Finding) -> Finding {
         _ => "The seed and the secret key file are of wholly different keys",
     };
     let finding = finding.first(Seen, format!("{which}. The report could be tied to neither key."));
-    let finding = if check.whole() { finding } else { unfit(check, finding.first(Seen, faults(check))) };
+    let finding = if check.whole() { finding } else { faulty(check, faults(check), finding) };
     finding.because(Next, "Find out which of the two is this report's, and replace neither before.")
 }
