@@ -1,2 +1,3 @@
 -- The third demand of the calls.
 pub mod RoundTrip
+pub mod Signed
