@@ -2,9 +2,12 @@
 use sets::Chosen;
 use sets::Frodo1344Shake;
 ghost use mathlib.Core.Path.{_≡_};
+ghost use mathlib.Core.Bool.{cond};
 ghost use Prim.Native.Nat.{_*_};
 ghost use lib.ListN.{length};
 ghost use Rattle.keccak.specs.Keccak.{keccakF};
+ghost use Rattle.sets.specs.Sets.{known, paramsOf};
+ghost use Rattle.scheme.specs.Parts.{storedSamples};
 
 #[no_mangle]
 pub extern "C" fn bench_permute(s: &mut [u64; 25])
@@ -42,9 +45,11 @@ pub extern "C" fn bench_sa(seed: &[u8], noise: &mut [u16], out: &mut [u16])
     products::mul_add_sa_plus_e_from_seed(p, seed, noise, out);
 }
 
-// Each word becomes the sample that it draws in a set, stored mod 2^16.
+// Each word becomes the sample that it draws in a set, stored mod 2^16; with a number that is no set the words stay.
 #[no_mangle]
-pub extern "C" fn bench_samples(set: u32, words: &mut [u16]) {
+pub extern "C" fn bench_samples(set: u32, words: &mut [u16])
+    ensures { λ _. ⌜ now (words .exit) ≡ cond (known set) (storedSamples (paramsOf set .chi) (now (words .entry))) (now (words .entry)) ⌝ }
+{
     let Chosen::Known(p) = sets::choose(set) else {
         return;
     };

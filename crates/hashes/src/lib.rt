@@ -1,4 +1,4 @@
-// The set's SHAKE over one, two or three slices in a row, and the set's noise (docs/RULES.md, 4.8 to 4.10).
+// The set's SHAKE over one, two or three slices in a row, and the set's noise, stored (docs/RULES.md, 4.5.3 and 4.8 to 4.10).
 ghost use mathlib.Core.Path.{_≡_};
 ghost use mathlib.Core.List.{_∷_, _++_};
 ghost use Prim.Native.Nat.{_*_};

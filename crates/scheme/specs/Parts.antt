@@ -1,4 +1,4 @@
--- FrodoKEM standard proposal (2023), what FrodoKEM.KeyGen, FrodoKEM.Encaps and FrodoKEM.Decaps share; docs/RULES.md, 4.8 to 4.10: the set's hash and its noise.
+-- FrodoKEM standard proposal (2023), what FrodoKEM.KeyGen, FrodoKEM.Encaps and FrodoKEM.Decaps share; docs/RULES.md, 4.5.3 and 4.8 to 4.10: the set's hash and its noise.
 -- Assumes nothing.
 use mathlib.Core.List.{List, map}
 use Prim.Native.Nat.{ℕ}
