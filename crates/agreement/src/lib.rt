@@ -1,5 +1,7 @@
 // Whether a ciphertext is what encapsulation gives again (docs/RULES.md, 4.10): both of its matrices are compared with those that are made anew, mod q.
 // No branch and no index depends on a value that is secret.
+#![tactic(auto)]
+
 ghost use Rattle.std.specs.Prelude.{◌≡◌, ◌+◌, ◌*◌, length, take, drop};
 ghost use Rattle.lists.specs.Lists.{residues, equal};
 ghost use Rattle.sets.specs.Sets.{Valid};

@@ -1,4 +1,6 @@
 // Inside parts of the library, exported for `make bench` alone: the permutation, the row engine of set 3, and sampling.
+#![tactic(auto)]
+
 ghost use Rattle.std.specs.Prelude.{◌≡◌, cond, ◌*◌, length};
 ghost use Rattle.keccak.specs.Keccak.{keccak_f};
 ghost use Rattle.sets.specs.Sets.{known, params_of};

@@ -1,4 +1,6 @@
 // A ciphertext as its holder lends it (docs/RULES.md, 7.9), and its three parts: c1, then c2, then the salt.
+#![tactic(auto)]
+
 ghost use Rattle.std.specs.Prelude.{◌≡◌, length};
 ghost use Rattle.scheme.specs.Decaps.{ct_c1, ct_c2, ct_salt};
 ghost use Rattle.ciphertext.specs.Sized.{CiphertextSized};
@@ -35,7 +37,7 @@ fn salt_part<'a>(p: Params, ct: &'a [u8]) -> &'a [u8]
 // ---- the view
 
 // The bytes of a ciphertext, and the set that says where its parts stand.
-#[derive(Drop)]
+#[derive(Clone, Copy)]
 pub struct CiphertextRef<'a> {
     bytes: &'a [u8],
     set: Params,

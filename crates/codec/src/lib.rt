@@ -1,4 +1,6 @@
 // Packing of words into bytes and back (docs/RULES.md, 4.3): eight words of 15 bits are 15 bytes; a word of 16 bits is two bytes, the higher first.
+#![tactic(auto)]
+
 ghost use Rattle.std.specs.Prelude.{◌≡◌, ◌*◌, length};
 ghost use Rattle.codec.specs.Pack.{packed, unpacked};
 ghost use Rattle.codec.specs.Packing.{Packing};

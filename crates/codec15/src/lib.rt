@@ -1,4 +1,6 @@
 // The 15-bit words of docs/RULES.md, 4.3, in straight lines of whole-number formulas: eight words are fifteen bytes, highest bit first.
+#![tactic(auto)]
+
 ghost use Rattle.std.specs.Prelude.{◌≡◌, [], ◌∷◌, length};
 ghost use Rattle.bits.specs.Stream.{regrouped};
 

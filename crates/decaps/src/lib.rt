@@ -1,4 +1,6 @@
 // Decapsulation (docs/RULES.md, 4.10) in lent memory, for lengths that the caller has tested. The stored pkh is used as it stands.
+#![tactic(auto)]
+
 ghost use Rattle.std.specs.Prelude.{◌≡◌, cond, ◌++◌, ◌+◌, ◌≤◌, eqb, length};
 ghost use Rattle.sets.specs.Sets.{Valid};
 ghost use Rattle.lengths.specs.Sized.{DecapsSized, DecapsSecretSized};

@@ -1,4 +1,6 @@
 // Eight words at a time, by value: what a product's loop does in one turn (docs/RULES.md, 4.7).
+#![tactic(auto)]
+
 ghost use Rattle.std.specs.Prelude.{◌≡◌, ◌+◌, ◌*◌, ◌%◌, ◌≤◌, ◌<◌, length, get_or};
 ghost use Rattle.lists.specs.Lists.{tab, residues};
 ghost use Rattle.algebra.specs.Matrix.{mat_t};

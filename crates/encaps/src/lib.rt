@@ -1,4 +1,6 @@
 // Encapsulation (docs/RULES.md, 4.9) in lent memory, for lengths that the caller has tested.
+#![tactic(auto)]
+
 ghost use Rattle.std.specs.Prelude.{◌≡◌, ◌+◌, ◌*◌, length, take, drop};
 ghost use Rattle.sets.specs.Sets.{Valid};
 ghost use Rattle.codec.specs.Pack.{packed};

@@ -1,5 +1,7 @@
 // The calls that the runtime makes (docs/RULES.md, 4.8 to 4.11). None has a `requires`: a wrong set number, length or scratch is refused, and then
 // nothing that was lent has changed. What each leaves is one equation, by the definitions of specs/.
+#![tactic(auto)]
+
 ghost use Rattle.std.specs.Prelude.{◌≡◌};
 ghost use Rattle.frodo.specs.SetLengths.{lengths_for};
 ghost use Rattle.frodo.specs.One.{Keypair, Encaps, Decaps, DecapsSecret, Margins};
@@ -155,7 +157,7 @@ pub fn margin(
 }
 
 // The lengths of a set's buffers, the scratches' in words.
-#[derive(Drop)]
+#[derive(Clone, Copy)]
 pub struct SetLengths {
     pub seed: usize,
     pub pk: usize,

@@ -1,4 +1,6 @@
 // The C interface: one thin function a call, which answers the paper's number. A slice is a pointer and a length in elements.
+#![tactic(auto)]
+
 ghost use Rattle.std.specs.Prelude.{◌≡◌};
 ghost use Rattle.frodo.specs.One.{Keypair, Encaps, Decaps, DecapsSecret, Margins};
 ghost use Rattle.frodo.specs.SetLengths.{lengths_for};
@@ -81,7 +83,7 @@ pub extern "C" fn frodo_decapsulate_shared_secret(
 
 // struct frodo_margin of the C interface.
 #[repr(C)]
-#[derive(Drop)]
+#[derive(Clone, Copy)]
 pub struct FrodoMargin {
     pub refusal: u32,
     pub size: u32,
@@ -127,7 +129,7 @@ pub extern "C" fn frodo_margin(
 
 // struct frodo_lengths of the C interface.
 #[repr(C)]
-#[derive(Drop)]
+#[derive(Clone, Copy)]
 pub struct FrodoLengths {
     pub seed: u32,
     pub public_key: u32,

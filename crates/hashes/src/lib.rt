@@ -1,4 +1,6 @@
 // The set's SHAKE over one, two or three slices in a row, and the set's noise, stored (docs/RULES.md, 4.5.3 and 4.8 to 4.10).
+#![tactic(auto)]
+
 ghost use Rattle.std.specs.Prelude.{◌≡◌, ◌∷◌, ◌++◌, ◌*◌, length};
 ghost use Rattle.sets.specs.Sets.{Valid};
 ghost use Rattle.sets.specs.declared.Chi.TheVariants.{Frodo640, Frodo976, Frodo1344};

@@ -1,4 +1,6 @@
 // FIPS 202 (2015), KECCAK-p[1600, 24] (docs/RULES.md, 4.1 and 7.3). The state is 25 lanes by value, lane (x, y) at x + 5 y; the steps have their names there.
+#![tactic(auto)]
+
 ghost use Rattle.std.specs.Prelude.{◌≡◌, ◌<◌, [], ◌∷◌};
 ghost use Rattle.lists.specs.Lists.{tab};
 ghost use Rattle.keccak.specs.Keccak.{rotl, columns, theta, rho, pi, mixed, chi, iota_with, keccak_f};

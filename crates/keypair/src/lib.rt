@@ -1,4 +1,6 @@
 // Key generation from a seed, where all lengths are right (docs/RULES.md, 4.8).
+#![tactic(auto)]
+
 ghost use Rattle.std.specs.Prelude.{◌≡◌, ◌++◌, length};
 ghost use Rattle.bits.specs.Little.{bytes_of};
 ghost use Rattle.lengths.specs.Sized.{KeypairSized};

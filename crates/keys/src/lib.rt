@@ -1,4 +1,6 @@
 // The public key of a seed and the matrices behind it, where all lengths are right (docs/RULES.md, 4.8).
+#![tactic(auto)]
+
 ghost use Rattle.std.specs.Prelude.{◌≡◌, length};
 ghost use Rattle.scheme.specs.KeyGen.{key_seed_a};
 ghost use Rattle.keys.specs.Made.{MatrixSized, MatrixMade, PublicMade};

@@ -1,4 +1,6 @@
 // The loops inside the products, on words mod 2^16: a row times a matrix, and a row of A taken into a product (docs/RULES.md, 4.7).
+#![tactic(auto)]
+
 ghost use Rattle.std.specs.Prelude.{◌≡◌, ◌+◌, ◌*◌, ◌<◌, length, get_or};
 ghost use Rattle.lists.specs.Lists.{tab, residues};
 ghost use Rattle.algebra.specs.Matrix.{mat, mat_t, mul, ◌⊕◌, table};

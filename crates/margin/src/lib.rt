@@ -1,4 +1,6 @@
 // The margin, where all lengths are right (docs/RULES.md, 4.11).
+#![tactic(auto)]
+
 ghost use Rattle.std.specs.Prelude.{◌≡◌, ◌++◌, ◌≤◌, length, drop};
 ghost use Rattle.lists.specs.Lists.{residues};
 ghost use Rattle.algebra.specs.Matrix.{table};

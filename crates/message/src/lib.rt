@@ -1,5 +1,7 @@
 // Coding of messages (docs/RULES.md, 4.4), once over q and b. Each b bytes are a number, whose eight groups of b bits, the lowest first, are the words.
 // Secret numbers are shifted and masked, and never divided by a number that is not a constant.
+#![tactic(auto)]
+
 ghost use Rattle.std.specs.Prelude.{◌≡◌, map, ◌+◌, ◌*◌, ◌/◌, ◌%◌, ◌^◌, ◌≤◌, ◌<◌, length};
 ghost use Rattle.lists.specs.Lists.{tab};
 ghost use Rattle.bits.specs.Digits.{number, digit};

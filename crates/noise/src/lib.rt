@@ -1,4 +1,6 @@
 // Sampling of noise (docs/RULES.md, 4.5): a word of random bits becomes a signed number, by the set's table. No word is branched on.
+#![tactic(auto)]
+
 ghost use Rattle.std.specs.Prelude.{◌≡◌, ◌≤◌, ◌<◌, ltb, nat_abs, length};
 ghost use Rattle.noise.specs.Noise.{one, signed, sampled, table_of, largest_of};
 

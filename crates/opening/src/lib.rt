@@ -1,5 +1,7 @@
 // What decapsulation has besides encapsulation's own steps (docs/RULES.md, 4.10): the message that a ciphertext opens to, the comparison of two
 // matrices, and the choice of one of two secrets. No branch and no index depends on a value that is secret.
+#![tactic(auto)]
+
 ghost use Rattle.std.specs.Prelude.{◌≡◌, ◌&&◌, cond, ◌++◌, ◌*◌, ◌≤◌, eqb, length};
 ghost use Rattle.lists.specs.Lists.{equal};
 ghost use Rattle.algebra.specs.Congruence.{minus};

@@ -1,4 +1,6 @@
 // pkh from seedA and the words of B (docs/RULES.md, 4.8), without memory for the bytes of the public key.
+#![tactic(auto)]
+
 ghost use Rattle.std.specs.Prelude.{◌≡◌, ◌++◌, ◌*◌, ◌≤◌, length};
 ghost use Rattle.shake.specs.Sponge.{absorb_bytes, Ready};
 ghost use Rattle.sets.specs.Sets.{Valid};

@@ -1,4 +1,6 @@
 // The products of FrodoKEM, on words (docs/RULES.md, 4.7). Those from the seed keep words mod 2^16, the others mod q.
+#![tactic(auto)]
+
 ghost use Rattle.std.specs.Prelude.{◌≡◌, ◌*◌, length, take, drop};
 ghost use Rattle.lists.specs.Lists.{residues};
 ghost use Rattle.algebra.specs.Congruence.{minus};

@@ -1,4 +1,6 @@
 // The margin's answer (docs/RULES.md, 4.11): the largest size of some words of noise, that size over h as an f64, and the verdict on each of the words (4.11.4).
+#![tactic(auto)]
+
 ghost use Rattle.std.specs.Prelude.{◌≡◌, ◌%◌, ◌<◌, max};
 ghost use Rattle.lists.specs.Lists.{Below};
 ghost use Rattle.algebra.specs.Whole.{centred};
@@ -8,7 +10,7 @@ ghost use Rattle.ratio.specs.Answered.{refused_margin, Measured};
 
 use sets::Answer;
 
-#[derive(Drop)]
+#[derive(Clone, Copy)]
 pub struct Margin {
     pub answer: Answer,
     pub size: u32,

@@ -1,9 +1,11 @@
 // What the replay programs share: lists of answers as text, one a line, fields between single spaces, bytes as hex digits, '-' for no bytes.
 // A list that is malformed leads to answers that do not agree, and never out of bounds.
+#![tactic(auto)]
+
 ghost use Rattle.std.specs.Prelude.{◌≡◌, ◌+◌, ◌≤◌, ◌<◌, length};
 
 // A part of a text.
-#[derive(Drop)]
+#[derive(Clone, Copy)]
 pub struct Span {
     pub start: usize,
     pub end: usize,
@@ -136,7 +138,7 @@ pub fn bytes_in(line: &[u8], k: usize, out: &mut [u8]) -> usize
 }
 
 // Agreeing answers, and all of them. It stops counting at a million.
-#[derive(Drop)]
+#[derive(Clone, Copy)]
 pub struct Tally {
     pub right: usize,
     pub all: usize,

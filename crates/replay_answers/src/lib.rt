@@ -1,4 +1,6 @@
 // Answers that the replay programs compare: any by its digest, and those of rows of A and of the products on the matrices of a line.
+#![tactic(auto)]
+
 ghost use Rattle.std.specs.Prelude.{◌≡◌, ◌*◌, ◌≤◌, ◌<◌, length};
 ghost use Rattle.sets.specs.Sets.{Valid};
 

@@ -1,5 +1,7 @@
 // What `replay_kem` compares: each call of `frodo` on a line of a list, in memory that holds other bytes before, and what the call leaves of it.
 // A line is read from the set on: SET SEED MSG SALT, and what it has beside.
+#![tactic(auto)]
+
 ghost use Rattle.std.specs.Prelude.{◌≤◌, length};
 
 use ratio::Margin;

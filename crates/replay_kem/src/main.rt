@@ -1,5 +1,7 @@
 // Replays whole calls: the published answers, the oracle's on honest and on damaged input, margins by an independent computation, and the refusals of docs/RULES.md, 5.6.
 // Prints each line of a list that differs, and how many agree. `replay_calls` has the calls.
+#![tactic(auto)]
+
 ghost use Rattle.std.specs.Prelude.{◌≤◌, length};
 
 use replay::Tally;

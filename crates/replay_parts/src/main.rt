@@ -1,5 +1,7 @@
 // Replays the oracle's answers for sampling, message coding and packing, the numbers on each side of an edge (docs/RULES.md, 5), and verdicts on noise whose worst entry
 // lies around an end of the range. Prints how many agree.
+#![tactic(auto)]
+
 ghost use Rattle.std.specs.Prelude.{◌≡◌, ◌*◌, ◌≤◌, length};
 ghost use Rattle.codec.specs.Packing.{Packing};
 ghost use Rattle.message.specs.Coding.{Coding};
@@ -10,7 +12,7 @@ use replay::Tally;
 use sets::{Chi, Chosen, Params};
 
 // The kinds of lines, and any other line.
-#[derive(Drop)]
+#[derive(Clone, Copy)]
 enum Kind {
     Sample,
     Decode,

@@ -1,5 +1,7 @@
 // Replays answers for rows of A and the six products: the oracle's mod q, and an independent computation's word for word. Prints how many agree.
 // What a product overwrites holds other words before.
+#![tactic(auto)]
+
 ghost use Rattle.std.specs.Prelude.{◌≡◌, ◌*◌, ◌≤◌, length};
 ghost use Rattle.sets.specs.Sets.{Valid};
 
@@ -7,7 +9,7 @@ use replay::Tally;
 use sets::{Chosen, Params};
 
 // The commands of lines, and any other line. Those in Q have their words taken mod q first.
-#[derive(Drop)]
+#[derive(Clone, Copy)]
 enum Command {
     RowQ,
     RowW,

@@ -1,4 +1,6 @@
 // Replays SHAKE answers: the published ones, and a list around each block's edge. Prints how many of each kind agree.
+#![tactic(auto)]
+
 ghost use Rattle.std.specs.Prelude.{◌≡◌, ◌%◌, ◌≤◌, ◌<◌};
 ghost use Rattle.shake.specs.Sponge.{Squeezing, Even};
 

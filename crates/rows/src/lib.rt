@@ -1,4 +1,6 @@
 // Rows of A (docs/RULES.md, 4.6), and the mask by which words are taken mod q.
+#![tactic(auto)]
+
 ghost use Rattle.std.specs.Prelude.{◌≡◌, ◌+◌, ◌<◌, length};
 ghost use Rattle.sets.specs.Sets.{Valid};
 ghost use Rattle.words.specs.Words.{Mask};

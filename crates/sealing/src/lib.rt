@@ -1,4 +1,6 @@
 // The two matrices of a ciphertext (docs/RULES.md, 4.9 and 4.10): encapsulation makes them, and decapsulation makes them again.
+#![tactic(auto)]
+
 ghost use Rattle.std.specs.Prelude.{◌≡◌, ◌+◌, ◌*◌, length, take, drop};
 ghost use Rattle.lists.specs.Lists.{residues};
 ghost use Rattle.sets.specs.Sets.{Valid};

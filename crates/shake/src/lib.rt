@@ -1,5 +1,7 @@
 // FIPS 202 (2015), the sponge construction and SHAKE: a sponge over Keccak, at any rate of up to 200 bytes (SHAKE128 has 168, SHAKE256 has 136).
 // A sponge goes by value: new, absorb as often as there are parts, finish, squeeze as often as bytes are asked for.
+#![tactic(auto)]
+
 ghost use Rattle.std.specs.Prelude.{◌≡◌, min, ◌+◌, ◌*◌, ◌/◌, ◌%◌, ◌^◌, ◌≤◌, ◌<◌, [], ◌∷◌, length};
 ghost use Rattle.lists.specs.Lists.{tab};
 ghost use Rattle.bits.specs.Digits.{number};
@@ -8,7 +10,7 @@ ghost use Rattle.shake.specs.Shake.{shake};
 ghost use Rattle.shake.specs.Sponge.{made, turned, add_byte, xor_bytes, word_at, Whole, empty, absorb_bytes, finished, squeezed, after, Ready, Squeezing, Even};
 
 // `at` is the place of the next byte in a block of `rate` bytes.
-#[derive(Drop)]
+#[derive(Clone, Copy)]
 pub struct Sponge {
     pub lanes: [u64; 25],
     pub at: usize,

@@ -1,5 +1,7 @@
 // The sponge lent by &mut and changed in place, and SHAKE of one to three slices in a row through it (docs/RULES.md, 4.1 and 7.8).
 // The thin functions over &mut sponge call those of crates/shake that take it by value.
+#![tactic(auto)]
+
 ghost use Rattle.std.specs.Prelude.{◌≡◌, ◌++◌, ◌*◌, ◌%◌, ◌<◌, ◌≤◌, length};
 ghost use Rattle.bits.specs.Little.{words_of};
 ghost use Rattle.shake.specs.Shake.{shake};

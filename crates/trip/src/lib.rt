@@ -1,10 +1,12 @@
 // The third demand of the program (docs/RULES.md, 1.3): key generation, encapsulation and decapsulation in a row, on whatever is lent.
+#![tactic(auto)]
+
 ghost use Rattle.trip.specs.ThereAndBack.{ThereAndBack};
 
 use sets::Answer;
 
 // What the three calls answer.
-#[derive(Drop)]
+#[derive(Clone, Copy)]
 pub struct Answers {
     pub keys: Answer,
     pub sealing: Answer,

@@ -1,4 +1,6 @@
 // Word arithmetic (docs/RULES.md, 4.2), and what moves words and bytes: copies, zeros, remainders mod q, little-endian words.
+#![tactic(auto)]
+
 ghost use Rattle.std.specs.Prelude.{◌≡◌, ◌+◌, ◌*◌, ◌/◌, ◌%◌, ◌≤◌, length, replicate};
 ghost use Rattle.lists.specs.Lists.{residues, wiped};
 ghost use Rattle.bits.specs.Little.{words_of, bytes_of};
