@@ -1,0 +1,19 @@
+-- `message::number_of_groups` meets its contract: after i turns t is the number of the last i groups.
+-- Assumes nothing.
+use Prim.Native.Nat.{ℕ, ◌-◌, ◌^◌, ◌≤◌, ◌<◌}
+use native.Mathlib.Omega.{arith}
+use mathlib.Core.Path.{◌≡◌, sym, ap, ◌∙◌, subst}
+use mathlib.Core.List.{map}
+use lib.ListN.{length, length-map, get_or-map}
+use lib.Pow.{pow_pos}
+use Rattle.bits.specs.Digits.{number}
+use Rattle.bits.proofs.FromTop.{Read, read_none, read_more, scaled_fits, more_fits, read_all}
+use Rattle.message.specs.Message.{group_of}
+use Rattle.message.proofs.Codes.{groups_fit}
+use Rattle.message.proofs.number_of_groups.Given as goal
+
+abbrev pub invariant-loop-i : goal.invariant-loop-i
+invariant-loop-i l = (l.i ≤ 8) × (l.base ≡ 2 ^ l.b) × (length (map (group_of l.q l.b) l.w) ≡ 8) × Read l.base (map (group_of l.q l.b) l.w) l.i l.t
+
+abbrev pub decreases-loop-i : goal.decreases-loop-i
+decreases-loop-i l = 8 - l.i

@@ -1,0 +1,16 @@
+-- `add_lanes` adds a lane of eight bytes a turn.
+-- Assumes nothing.
+use mathlib.Core.Path.{◌≡◌, ap}
+use Prim.Native.Nat.{ℕ, ◌+◌, ◌*◌, ◌-◌, ◌/◌, ◌≤◌}
+use native.Mathlib.Omega.{arith}
+use lib.Bits.{bit_xor}
+use lib.ListN.{length, get_or, set}
+use Rattle.lists.proofs.Spans.{length_part}
+use Rattle.shake.proofs.Add.{Added, added_none, added_lane, added_all}
+use Rattle.shake.proofs.add_lanes.Given as goal
+
+abbrev pub invariant-loop-t : goal.invariant-loop-t
+invariant-loop-t l = (l.t ≤ l.n) × (l.n ≡ length l.bytes / 8) × Added l.initial.lanes (8 * l.l) (8 * l.t) l.bytes l.lanes
+
+abbrev pub decreases-loop-t : goal.decreases-loop-t
+decreases-loop-t l = l.n - l.t

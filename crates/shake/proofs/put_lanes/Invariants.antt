@@ -1,0 +1,19 @@
+-- `put_lanes` writes four words a turn.
+-- Assumes nothing.
+use mathlib.Core.Path.{◌≡◌, ap, ◌∙◌}
+use Prim.Native.Nat.{ℕ, ◌+◌, ◌*◌, ◌-◌, ◌/◌, ◌≤◌}
+use native.Mathlib.Omega.{arith}
+use lib.ListN.{length}
+use Rattle.lists.specs.Lists.{tab}
+use Rattle.lists.proofs.Loops.{Upto, none, moved, all}
+use Rattle.lists.proofs.Spans.{length_part, upto_part}
+use Rattle.lists.proofs.Tables.{tab_cong}
+use Rattle.shake.specs.Sponge.{word_at}
+use Rattle.shake.proofs.Put.{lane_word}
+use Rattle.shake.proofs.put_lanes.Given as goal
+
+abbrev pub invariant-loop-t : goal.invariant-loop-t
+invariant-loop-t l = (l.t ≤ l.n) × (l.n ≡ length l.initial.out / 4) × Upto (λ j. word_at l.lanes (8 * l.l + 2 * j)) (4 * l.t) l.initial.out l.out
+
+abbrev pub decreases-loop-t : goal.decreases-loop-t
+decreases-loop-t l = l.n - l.t

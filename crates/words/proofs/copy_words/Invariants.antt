@@ -1,0 +1,11 @@
+-- `words::copy_words` meets its contract: after i turns the first i words are copied.
+-- Assumes nothing.
+use Prim.Native.Nat.{◌-◌, ◌≤◌}
+use native.Mathlib.Omega.{arith}
+use mathlib.Core.Path.{◌≡◌, refl}
+use lib.ListN.{length, get_or}
+use Rattle.lists.proofs.Loops.{Upto, none, more, copied_all}
+use Rattle.words.proofs.copy_words.Given as goal
+
+abbrev pub invariant-loop-i : goal.invariant-loop-i
+invariant-loop-i l = (l.i ≤ l.i-end) × (l.i-end ≡ length l.src) × Upto (λ k. get_or l.src k 0) l.i l.initial.dst l.dst

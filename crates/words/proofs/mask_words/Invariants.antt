@@ -1,0 +1,11 @@
+-- `words::mask_words` meets its contract: after i turns the first i words are taken mod q.
+-- Assumes nothing.
+use Prim.Native.Nat.{ℕ, ◌+◌, ◌-◌, ◌%◌, ◌≤◌}
+use native.Mathlib.Omega.{arith}
+use mathlib.Core.Path.{◌≡◌, refl, ap, ◌∙◌}
+use lib.ListN.{length, get_or}
+use Rattle.lists.proofs.Loops.{Upto, none, more, past, mapped_all}
+use Rattle.words.proofs.mask_words.Given as goal
+
+abbrev pub invariant-loop-i : goal.invariant-loop-i
+invariant-loop-i l = (l.i ≤ l.i-end) × (l.i-end ≡ length l.initial.s) × Upto (λ k. get_or l.initial.s k 0 % (l.mask + 1)) l.i l.initial.s l.s
