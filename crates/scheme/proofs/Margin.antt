@@ -3,7 +3,7 @@
 -- Assumes nothing.
 use mathlib.Core.Path.{◌≡◌, refl, sym, ap, ap₂, ◌∙◌, subst}
 use mathlib.Core.Logic.{inl, inr, ◌↔◌}
-use mathlib.Core.Bool.{Bool, true, ◌&&◌, and_true}
+use mathlib.Core.Bool.{Bool, true, ◌&&◌, and-true}
 use mathlib.Core.List.{List}
 use Prim.Native.Nat.{ℕ, zero, suc, ◌+◌, ◌*◌, ◌-◌, ◌/◌, ◌%◌, ◌≤◌, ◌<◌, max}
 use native.Mathlib.Nat.{mod-lt, mod-eq_of_lt, add-mod_right, not-suc-le-zero, le-suc_iff, suc_inj}
@@ -114,7 +114,7 @@ range_pos (suc h) n = refl
 -- of a negative one, the lower end
 range_neg : (h n : ℕ) → in_range h (negsuc n) ≡ leb (suc n) h
 range_neg zero n = sym (leb-suc-zero n)
-range_neg (suc h) n = and_true (leb n h) ∙ sym (leb-suc-suc n h)
+range_neg (suc h) n = and-true (leb n h) ∙ sym (leb-suc-suc n h)
 
 -- below half of q a word is in range where it is below h
 pub range_low : (c h x : ℕ) → x < c → in_range h (centred (2 * c) x) ≡ ltb x h

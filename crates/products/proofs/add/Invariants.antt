@@ -1,0 +1,18 @@
+-- `products::add` meets its contract.
+-- Assumes nothing.
+use native.Mathlib.Omega.{arith}
+use mathlib.Core.Path.{sym, ap, ◌∙◌}
+use Prim.Native.Nat.{ℕ, ◌+◌, ◌-◌, ◌%◌, ◌≤◌}
+use lib.ListN.{get_or}
+use Rattle.lists.specs.Lists.{residues}
+use Rattle.lists.proofs.Loops.{Upto, none, more, past}
+use Rattle.algebra.specs.Matrix.{mat, ◌⊕◌, table}
+use Rattle.algebra.proofs.Tables.{map_table}
+use Rattle.algebra.proofs.Turns.{entries}
+use Rattle.products.proofs.add.Given as goal
+
+abbrev pub invariant-loop-i : goal.invariant-loop-i
+invariant-loop-i l = (l.i ≤ 64) × Upto (λ t. (get_or l.initial.out t 0 + get_or l.rhs t 0) % (l.q_mask + 1)) l.i l.initial.out l.out
+
+abbrev pub decreases-loop-i : goal.decreases-loop-i
+decreases-loop-i l = 64 - l.i

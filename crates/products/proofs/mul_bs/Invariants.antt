@@ -1,0 +1,25 @@
+-- `products::mul_bs` meets its contract: after i turns the first i rows of the result stand.
+-- Assumes nothing.
+use native.Mathlib.Omega.{arith}
+use mathlib.Core.Path.{◌≡◌, ap, ◌∙◌}
+use mathlib.Core.List.{List}
+use Prim.Native.Nat.{ℕ, ◌+◌, ◌*◌, ◌-◌, ◌%◌, ◌≤◌}
+use native.Mathlib.Nat.{add-zero}
+use lib.ListN.{length, replicate, get_or-replicate}
+use Rattle.lists.specs.Lists.{tab, residues}
+use Rattle.algebra.specs.Matrix.{Matrix, mat, mat_t, mul, ◌⊕◌, table}
+use Rattle.algebra.proofs.Products.{within}
+use Rattle.algebra.proofs.Tables.{words_cong}
+use Rattle.algebra.proofs.Turns.{Rows, rows_none, rows_more, rows_all, row_of, part, part_at}
+use Rattle.products.proofs.Laws.{masked}
+use Rattle.products.proofs.mul_bs.Given as goal
+
+-- `dots` adds to zeros
+abbrev pub result : (n : ℕ) (b s : List ℕ) → Matrix
+result n b s = mul n (mat n b) (mat_t n s) ⊕ (λ i j. 0)
+
+abbrev pub invariant-loop-i : goal.invariant-loop-i
+invariant-loop-i l = (l.i ≤ 8) × Rows (l.q_mask + 1) 8 (result l.n l.b l.s) l.i l.initial.out l.out
+
+abbrev pub decreases-loop-i : goal.decreases-loop-i
+decreases-loop-i l = 8 - l.i
