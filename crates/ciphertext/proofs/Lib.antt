@@ -1,5 +1,2 @@
--- What the proofs over a view share, and the lengths of a ciphertext's parts.
-pub mod Twice
-pub mod Accessor
-pub mod Plain
+-- The lengths of a ciphertext's parts.
 pub mod Lengths

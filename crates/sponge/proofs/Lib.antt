@@ -1,6 +1,2 @@
--- The walks that the functions over a lent sponge share, and the laws that make them SHAKE.
-pub mod Row
-pub mod Squeezes
-pub mod Calls
-pub mod Through
+-- The laws that make what the functions over a lent sponge give SHAKE.
 pub mod Laws
