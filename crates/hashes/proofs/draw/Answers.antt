@@ -1,0 +1,15 @@
+-- `hashes::draw` meets its contract: SHAKE of the tag and the seed gives the words, and the table makes them noise.
+-- Assumes nothing.
+use mathlib.Core.Path.{ap, ◌∙◌}
+use borrow.Author.Rules.{rules}
+use Rattle.scheme.specs.Parts.{hash, stored_samples}
+use Rattle.hashes.proofs.Laws.{rate_even}
+use Rattle.hashes.proofs.draw.Goals as goal
+
+pub shake_words-requires : goal.shake_words-requires
+shake_words-requires c = rate_even c.requires
+
+pub returns : goal.returns
+unfolding hash
+returns c =
+    c.store_samples.ensures ∙ ap (stored_samples c.args.p.chi) c.shake_words.ensures
