@@ -22,7 +22,7 @@ use Rattle.sealing.specs.Sealing.{mask_noise, mask_b, mask_c, Masked}
 use Rattle.lists.proofs.Filled.{drop_of_take}
 use Rattle.sealing.proofs.Names.{enc_noise_lem, enc_B, enc_C}
 use Rattle.opening.specs.Opening.{bit}
-use Rattle.opening.proofs.Choices.{bit_and}
+use Rattle.opening.proofs.Choices.{bit_and_lem}
 use Rattle.agreement.specs.Again.{AgainSized, MasksCompared}
 
 module _ (p : Params) (valid : Valid p) (noise : List ℕ) where
@@ -96,4 +96,4 @@ module _ (p : Params) (sk ct msg noise work : List ℕ) (sized : AgainSized p (l
       ap₂ bit_and
       (compared.same_is ∙ (λ i. bit (equal (residues p.q (B i)) (unpacked p.d (is-c1 i)))))
       (evalued ∙ (λ i. bit (equal (residues p.q (C i)) (unpacked p.d (is-c2 i)))))
-      ∙ bit_and (equal (residues p.q (enc_b p (sk_pk p sk) pkh msg salt)) (ct_b p ct)) (equal (residues p.q (enc_c p (sk_pk p sk) pkh msg salt)) (ct_c p ct))
+      ∙ bit_and_lem (equal (residues p.q (enc_b p (sk_pk p sk) pkh msg salt)) (ct_b p ct)) (equal (residues p.q (enc_c p (sk_pk p sk) pkh msg salt)) (ct_c p ct))

@@ -35,11 +35,11 @@ bit_le true = omega arith
 bit_le false = omega arith
 
 -- both of two tests, by their numbers
-pub bit_and : (s t : Bool) → bit_and (bit s) (bit t) ≡ bit (s && t)
-bit_and true true = refl
-bit_and true false = refl
-bit_and false true = refl
-bit_and false false = refl
+pub bit_and_lem : (s t : Bool) → bit_and (bit s) (bit t) ≡ bit (s && t)
+bit_and_lem true true = refl
+bit_and_lem true false = refl
+bit_and_lem false true = refl
+bit_and_lem false false = refl
 
 -- ---- the comparison
 

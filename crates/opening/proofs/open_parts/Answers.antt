@@ -16,7 +16,10 @@ unpack-requires-2 c =
     record { width = c.requires.valid.d_cases; count = 8; words = search rules; bytes = c2_long _ c.args.ct.now c.requires.valid c.requires.ct_long c.c2_of.ensures }
 
 pub shape_of-noise : goal.shape_of-noise
-shape_of-noise c = ap length (returns c) ∙ parts_long _ c.args.sk.now c.args.ct.now c.args.noise.now c.requires
+shape_of-noise c =
+    ap length
+    (parts_law _ c.args.sk.now c.args.ct.now c.args.noise.now c.requires c.c1_of.ensures c.c2_of.ensures c.words_of.ensures c.unpack.ensures c.unpack-2.ensures)
+    ∙ parts_long _ c.args.sk.now c.args.ct.now c.args.noise.now c.requires
 
 pub returns : goal.returns
 returns c =
