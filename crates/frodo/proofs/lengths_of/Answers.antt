@@ -7,24 +7,20 @@ use borrow.Author.Rules.{rules}
 use Rattle.sets.specs.Sets.{known, params_of}
 use Rattle.sets.proofs.Facts.{picked, refused}
 use Rattle.frodo.specs.SetLengths.{lengths_of, no_lengths, lengths_for}
-use Rattle.frodo.proofs.lengths_of.Statement.{statement}
-use Rattle.frodo.proofs.lengths_of.Tie as tie
+use Rattle.frodo.proofs.lengths_of.Goals as goal
 
 -- what a set's number tells
 told : (set : ℕ) (b : Bool) → known set ≡ b → lengths_for set ≡ cond b (lengths_of (params_of set)) no_lengths
 unfolding lengths_for
 told set b e = ap (λ (k : Bool). cond k (lengths_of (params_of set)) no_lengths) e
 
-returns : tie.Need-returns
+pub returns-in_default : goal.returns-in_default
+returns-in_default c =
+    let set = c.args.set in
+    sym (told set false (refused set (sym c.choose.ensures ∙ c.in_default.is)))
+
+pub returns : goal.returns
 returns c =
-    let set = c.before.before.before.args.set in
-    sym (told set false (refused set (sym c.before.before.choose.ensures ∙ c.enum_told.given.1)))
-
-returns-2 : tie.Need-returns-2
-returns-2 c =
-    let set = c.before.before.before.before.args.set in
-    let e = picked set c.before.p.given.0.0 (sym c.before.before.before.choose.ensures ∙ c.before.p.given.1) in
+    let set = c.args.set in
+    let e = picked set c.in-Known.p (sym c.choose.ensures ∙ c.in-Known.is) in
     ap lengths_of e.1 ∙ sym (told set true e.0)
-
-pub lengths-of-spec : {M : Type 1} → statement M
-lengths-of-spec = tie.close (tie.spec (λ c κs. search rules) (λ c. search rules) (λ c. search rules) returns returns-2)
