@@ -154,12 +154,7 @@ fn lines(text: &[u8], edges: bool) -> Tally {
     tally
 }
 
-fn replay_list(
-    rt: &(impl Files + Print),
-    name: &[u8],
-    path: &str,
-    edges: bool,
-) -> io::Result<()> {
+fn replay_list(rt: &(impl Files + Print), name: &[u8], path: &str, edges: bool) -> io::Result<()> {
     let mut text = [0u8; 262144];
     let n = replay::read(rt, path, &mut text)?;
     replay::report(rt, name, lines(&text[0..n], edges))
