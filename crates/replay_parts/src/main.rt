@@ -321,8 +321,16 @@ fn lines(text: &[u8], kind: Kind) -> Tally {
 fn report(rt: &impl Print, text: &[u8]) -> io::Result<()> {
     replay::report(rt, b"every word sampled", lines(text, Kind::Sample))?;
     replay::report(rt, b"every word decoded", lines(text, Kind::Decode))?;
-    replay::report(rt, b"the rules' words sampled", lines(text, Kind::OneSample))?;
-    replay::report(rt, b"the rules' words decoded", lines(text, Kind::OneDecode))?;
+    replay::report(
+        rt,
+        b"the rules' words sampled",
+        lines(text, Kind::OneSample),
+    )?;
+    replay::report(
+        rt,
+        b"the rules' words decoded",
+        lines(text, Kind::OneDecode),
+    )?;
     replay::report(rt, b"eight words packed", lines(text, Kind::Pack))?;
     replay::report(rt, b"eight words unpacked", lines(text, Kind::Unpack))?;
     replay::report(rt, b"messages encoded", lines(text, Kind::Encode))?;
