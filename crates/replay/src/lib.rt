@@ -2,7 +2,12 @@
 // A list that is malformed leads to answers that do not agree, and never out of bounds.
 #![tactic(auto)]
 
-ghost use Rattle.std.specs.Prelude.{◌≡◌, ◌+◌, ◌≤◌, ◌<◌, length};
+ghost use Rattle.std.specs.Prelude.{◌≡◌, ◌+◌, ◌≤◌, ◌<◌, length, IfOk};
+
+use std::fs::File;
+use std::io;
+use std::io::Read;
+use std::rt::Files;
 
 // A part of a text.
 #[derive(Clone, Copy)]
@@ -42,14 +47,21 @@ pub fn comment(line: &[u8]) -> bool {
     line[0] == b'#'
 }
 
-// The file of that name, as much of it as out holds. Answers how many bytes.
-pub fn read(path: &[u8], out: &mut [u8]) -> usize
-    ensures { result ≤ length out.new }
+// The file of that name, as much of it as out holds. Answers how many bytes, and an error where it cannot be opened or read.
+pub fn read(rt: &impl Files, path: &str, out: &mut [u8]) -> io::Result<usize>
+    ensures within { IfOk result (λ n. n ≤ length out.new) }
+    ensures kept { length out.new ≡ length out.old }
 {
-    let fd = os::open_read(path);
-    let n = io::read_full(fd, out);
-    libc::close(fd);
-    n
+    let mut file = File::open(rt, path)?;
+    let mut n = 0;
+    while n < out.len() {
+        let more = file.read(&mut out[n..])?;
+        if more == 0 {
+            break;
+        }
+        n += more;
+    }
+    Ok(n)
 }
 
 // Where the field after the one at `start` begins, or the length where there is none.
@@ -177,11 +189,9 @@ impl Tally {
 }
 
 // Prints what was replayed, and how many of its answers agree.
-pub fn report(name: &[u8], tally: Tally) {
-    io::write_all(1, name);
-    io::write_all(1, b": ");
-    io::print_decimal(1, tally.right as u64);
-    io::write_all(1, b" of ");
-    io::print_decimal(1, tally.all as u64);
-    io::write_all(1, b" agree\n");
+pub fn report(rt: &impl Print, name: &[u8], tally: Tally) -> io::Result<()> {
+    let right = tally.right;
+    let all = tally.all;
+    rt.write_all(name)?;
+    println!(rt; ": {right} of {all} agree")
 }

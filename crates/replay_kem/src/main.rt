@@ -6,6 +6,8 @@ ghost use Rattle.std.specs.Prelude.{◌≤◌, length};
 
 use replay::Tally;
 use replay_calls::{COMMAND, DAMAGE, LINE, first, least, of_call, unless};
+use std::io;
+use std::rt::Files;
 
 // The kinds of lines, by a letter: 'k' keys and ciphertext, which begins with the set, 'o' an opening, 'm' a margin, '#' nothing to replay, '?' any other.
 fn command_of(line: &[u8]) -> u8 {
@@ -25,37 +27,37 @@ fn command_of(line: &[u8]) -> u8 {
 }
 
 // Prints name k of some names, and a space.
-fn print_name(names: &[u8], k: u32) {
+fn print_name(rt: &impl Print, names: &[u8], k: u32) -> io::Result<()> {
     let f = replay::field(names, k as usize);
     let a = f.start;
     let b = f.end;
-    io::write_all(1, &names[a..b]);
-    io::write_all(1, b" ");
+    rt.write_all(&names[a..b])?;
+    rt.write_all(b" ")
 }
 
-fn print_difference(what: u32) {
+fn print_difference(rt: &impl Print, what: u32) -> io::Result<()> {
     print_name(
+        rt,
         b"no generate_keypair_from_seed encapsulate decapsulate decapsulate_shared_secret margin the",
         what / 16,
-    );
+    )?;
     print_name(
+        rt,
         b"nothing answer noise-scratch work-scratch seed public-key secret-key ciphertext shared-secret message size ratio verdict damage command",
         what % 16,
-    );
-    io::write_all(1, b"differs\n");
+    )?;
+    rt.write_all(b"differs\n")
 }
 
 // Prints the place in a list, where something differs there. Answers whether nothing does.
-fn noted(list: &[u8], line: usize, what: u32) -> bool {
+fn noted(rt: &impl Print, list: &[u8], line: usize, what: u32) -> io::Result<bool> {
     if what == 0 {
-        return true;
+        return Ok(true);
     }
-    io::write_all(1, list);
-    io::write_all(1, b" line ");
-    io::print_decimal(1, line as u64);
-    io::write_all(1, b": ");
-    print_difference(what);
-    false
+    rt.write_all(list)?;
+    print!(rt; " line {line}: ")?;
+    print_difference(rt, what)?;
+    Ok(false)
 }
 
 // Every byte replaced, by SHAKE128 over SEED.
@@ -175,82 +177,103 @@ fn next(line: usize) -> usize {
 }
 
 // One line of a list, where it is of that command.
-fn replayed(list: &[u8], number: usize, line: &[u8], command: u8, tally: Tally) -> Tally {
+fn replayed(
+    rt: &impl Print,
+    list: &[u8],
+    number: usize,
+    line: &[u8],
+    command: u8,
+    tally: Tally,
+) -> io::Result<Tally> {
     if command_of(line) == command {
-        return tally.with(noted(list, number, line_differs(line, command)));
+        let agrees = noted(rt, list, number, line_differs(line, command))?;
+        return Ok(tally.with(agrees));
     }
-    tally
+    Ok(tally)
 }
 
 // Every line of that command.
-fn lines(list: &[u8], text: &[u8], command: u8) -> Tally {
+fn lines(rt: &impl Print, list: &[u8], text: &[u8], command: u8) -> io::Result<Tally> {
     let mut tally = Tally::new();
     let mut at = 0;
     let mut number = 0;
     while at < text.len() {
         let end = replay::find(text, at, b'\n');
         number = next(number);
-        tally = replayed(list, number, &text[at..end], command, tally);
+        tally = replayed(rt, list, number, &text[at..end], command, tally)?;
         at = replay::past(text, at, end);
     }
-    tally
+    Ok(tally)
 }
 
 // The numbers on each side of an edge for key generation (docs/RULES.md, 5.6).
-fn refusals() -> Tally {
+fn refusals(rt: &impl Print) -> io::Result<Tally> {
     let t = Tally::new();
     let t = t.with(noted(
+        rt,
         b"refusals",
         1,
         replay_calls::refused(1, 63, 9616, 19888, 10304, 11136, 2),
-    ));
+    )?);
     let t = t.with(noted(
+        rt,
         b"refusals",
         2,
         replay_calls::refused(1, 65, 9616, 19888, 10304, 11136, 2),
-    ));
+    )?);
     let t = t.with(noted(
+        rt,
         b"refusals",
         3,
         replay_calls::refused(1, 64, 9615, 19888, 10304, 11136, 3),
-    ));
+    )?);
     let t = t.with(noted(
+        rt,
         b"refusals",
         4,
         replay_calls::refused(1, 64, 9616, 19888, 10303, 11136, 9),
-    ));
+    )?);
     let t = t.with(noted(
+        rt,
         b"refusals",
         5,
         replay_calls::refused(1, 64, 9616, 19888, 10304, 11136, 0),
-    ));
-    t.with(noted(
+    )?);
+    Ok(t.with(noted(
+        rt,
         b"refusals",
         6,
         replay_calls::refused(0, 63, 9615, 19887, 10303, 11135, 1),
-    ))
+    )?))
 }
 
-fn replay_list(name: &[u8], path: &[u8], command: u8) {
+fn replay_list(
+    rt: &(impl Files + Print),
+    name: &[u8],
+    path: &str,
+    command: u8,
+) -> io::Result<()> {
     let mut text = [0u8; 524288];
-    let n = replay::read(path, &mut text);
-    replay::report(name, lines(path, &text[0..n], command));
+    let n = replay::read(rt, path, &mut text)?;
+    let tally = lines(rt, path.as_bytes(), &text[0..n], command)?;
+    replay::report(rt, name, tally)
 }
 
-fn replay_published() {
-    replay_list(b"published answers", b"published.txt", b'k');
-    replay_list(b"other published lines", b"published.txt", b'?');
+fn replay_published(rt: &(impl Files + Print)) -> io::Result<()> {
+    replay_list(rt, b"published answers", "published.txt", b'k')?;
+    replay_list(rt, b"other published lines", "published.txt", b'?')
 }
 
-fn replay_kem() {
-    replay_list(b"keys and ciphertexts", b"kem.txt", b'k');
-    replay_list(b"openings", b"kem.txt", b'o');
-    replay_list(b"margins", b"kem.txt", b'm');
-    replay_list(b"other lines", b"kem.txt", b'?');
+fn replay_kem(rt: &(impl Files + Print)) -> io::Result<()> {
+    replay_list(rt, b"keys and ciphertexts", "kem.txt", b'k')?;
+    replay_list(rt, b"openings", "kem.txt", b'o')?;
+    replay_list(rt, b"margins", "kem.txt", b'm')?;
+    replay_list(rt, b"other lines", "kem.txt", b'?')
 }
 
-fn main() {
-    replay_published();
-    replay_kem();
-    replay::report(b"the rules' refusals", refusals());
+fn main(rt: HostRuntime) -> io::Result<()> {
+    replay_published(&rt)?;
+    replay_kem(&rt)?;
+    let tally = refusals(&rt)?;
+    replay::report(&rt, b"the rules' refusals", tally)
 }

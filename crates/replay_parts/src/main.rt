@@ -10,6 +10,7 @@ ghost use Rattle.sets.specs.Sets.{Valid};
 use ratio::Margin;
 use replay::Tally;
 use sets::{Chi, Chosen, Params};
+use std::io;
 
 // The kinds of lines, and any other line.
 #[derive(Clone, Copy)]
@@ -317,20 +318,28 @@ fn lines(text: &[u8], kind: Kind) -> Tally {
     tally
 }
 
-fn report(text: &[u8]) {
-    replay::report(b"every word sampled", lines(text, Kind::Sample));
-    replay::report(b"every word decoded", lines(text, Kind::Decode));
-    replay::report(b"the rules' words sampled", lines(text, Kind::OneSample));
-    replay::report(b"the rules' words decoded", lines(text, Kind::OneDecode));
-    replay::report(b"eight words packed", lines(text, Kind::Pack));
-    replay::report(b"eight words unpacked", lines(text, Kind::Unpack));
-    replay::report(b"messages encoded", lines(text, Kind::Encode));
-    replay::report(b"verdicts on noise", lines(text, Kind::Margin));
-    replay::report(b"other lines", lines(text, Kind::Other));
+fn report(rt: &impl Print, text: &[u8]) -> io::Result<()> {
+    replay::report(rt, b"every word sampled", lines(text, Kind::Sample))?;
+    replay::report(rt, b"every word decoded", lines(text, Kind::Decode))?;
+    replay::report(
+        rt,
+        b"the rules' words sampled",
+        lines(text, Kind::OneSample),
+    )?;
+    replay::report(
+        rt,
+        b"the rules' words decoded",
+        lines(text, Kind::OneDecode),
+    )?;
+    replay::report(rt, b"eight words packed", lines(text, Kind::Pack))?;
+    replay::report(rt, b"eight words unpacked", lines(text, Kind::Unpack))?;
+    replay::report(rt, b"messages encoded", lines(text, Kind::Encode))?;
+    replay::report(rt, b"verdicts on noise", lines(text, Kind::Margin))?;
+    replay::report(rt, b"other lines", lines(text, Kind::Other))
 }
 
-fn main() {
+fn main(rt: HostRuntime) -> io::Result<()> {
     let mut text = [0u8; 262144];
-    let n = replay::read(b"parts.txt", &mut text);
-    report(&text[0..n]);
+    let n = replay::read(&rt, "parts.txt", &mut text)?;
+    report(&rt, &text[0..n])
 }

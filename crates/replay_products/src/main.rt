@@ -7,6 +7,7 @@ ghost use Rattle.sets.specs.Sets.{Valid};
 
 use replay::Tally;
 use sets::{Chosen, Params};
+use std::io;
 
 // The commands of lines, and any other line. Those in Q have their words taken mod q first.
 #[derive(Clone, Copy)]
@@ -271,26 +272,26 @@ fn lines(text: &[u8], command: Command) -> Tally {
 }
 
 // The commands on rows of A and from its seed.
-fn report_seeded(text: &[u8]) {
-    replay::report(b"rows of A mod q", lines(text, Command::RowQ));
-    replay::report(b"rows of A", lines(text, Command::RowW));
-    replay::report(b"A * S + E mod q", lines(text, Command::AsQ));
-    replay::report(b"A * S + E", lines(text, Command::AsW));
-    replay::report(b"S' * A + E' mod q", lines(text, Command::SaQ));
-    replay::report(b"S' * A + E'", lines(text, Command::SaW));
+fn report_seeded(rt: &impl Print, text: &[u8]) -> io::Result<()> {
+    replay::report(rt, b"rows of A mod q", lines(text, Command::RowQ))?;
+    replay::report(rt, b"rows of A", lines(text, Command::RowW))?;
+    replay::report(rt, b"A * S + E mod q", lines(text, Command::AsQ))?;
+    replay::report(rt, b"A * S + E", lines(text, Command::AsW))?;
+    replay::report(rt, b"S' * A + E' mod q", lines(text, Command::SaQ))?;
+    replay::report(rt, b"S' * A + E'", lines(text, Command::SaW))
 }
 
-fn report(text: &[u8]) {
-    report_seeded(text);
-    replay::report(b"S' * B + E''", lines(text, Command::Sb));
-    replay::report(b"B' * S", lines(text, Command::Bs));
-    replay::report(b"sums", lines(text, Command::Add));
-    replay::report(b"differences", lines(text, Command::Sub));
-    replay::report(b"other lines", lines(text, Command::Other));
+fn report(rt: &impl Print, text: &[u8]) -> io::Result<()> {
+    report_seeded(rt, text)?;
+    replay::report(rt, b"S' * B + E''", lines(text, Command::Sb))?;
+    replay::report(rt, b"B' * S", lines(text, Command::Bs))?;
+    replay::report(rt, b"sums", lines(text, Command::Add))?;
+    replay::report(rt, b"differences", lines(text, Command::Sub))?;
+    replay::report(rt, b"other lines", lines(text, Command::Other))
 }
 
-fn main() {
+fn main(rt: HostRuntime) -> io::Result<()> {
     let mut text = [0u8; 16384];
-    let n = replay::read(b"products.txt", &mut text);
-    report(&text[0..n]);
+    let n = replay::read(&rt, "products.txt", &mut text)?;
+    report(&rt, &text[0..n])
 }

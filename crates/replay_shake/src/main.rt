@@ -6,6 +6,8 @@ ghost use Rattle.shake.specs.Sponge.{Squeezing, Even};
 
 use replay::Tally;
 use shake::Sponge;
+use std::io;
+use std::rt::Files;
 
 // The output lengths that are tried on the list of edges.
 const LENGTHS: [usize; 15] = [
@@ -152,13 +154,13 @@ fn lines(text: &[u8], edges: bool) -> Tally {
     tally
 }
 
-fn replay_list(name: &[u8], path: &[u8], edges: bool) {
+fn replay_list(rt: &(impl Files + Print), name: &[u8], path: &str, edges: bool) -> io::Result<()> {
     let mut text = [0u8; 262144];
-    let n = replay::read(path, &mut text);
-    replay::report(name, lines(&text[0..n], edges));
+    let n = replay::read(rt, path, &mut text)?;
+    replay::report(rt, name, lines(&text[0..n], edges))
 }
 
-fn main() {
-    replay_list(b"published answers", b"published.txt", false);
-    replay_list(b"answers around each block's edge", b"edges.txt", true);
+fn main(rt: HostRuntime) -> io::Result<()> {
+    replay_list(&rt, b"published answers", "published.txt", false)?;
+    replay_list(&rt, b"answers around each block's edge", "edges.txt", true)
 }
