@@ -46,7 +46,7 @@ module _ {k : KeypairLent} {e : EncapsLent} (made : Sealed k e) where
   sealing = encaps_done_left e made.sealing_done ∙ ap (λ (s : ℕ). encaps_done e (params_of s)) made.sealed_set
 
   public_is : e.pk ≡ public_key p k.seed
-  public_is = made.public_key_lem ∙ ap (λ (l : KeypairLeft). l.pk) keys
+  public_is = made.public_key ∙ ap (λ (l : KeypairLeft). l.pk) keys
 
   secret_is : (keypair_leaves k).sk ≡ secret_key p k.seed
   secret_is = ap (λ (l : KeypairLeft). l.sk) keys
@@ -74,7 +74,7 @@ module _ {k : KeypairLent} {e : EncapsLent} (made : Sealed k e) where
 
   module _ {set : ℕ} {sk ct : List ℕ} {ss noise work : ℕ} (o : Opens k e set sk ct ss noise work) where
     key_is : sk ≡ secret_key p k.seed
-    key_is = o.secret_key_lem ∙ secret_is
+    key_is = o.secret_key ∙ secret_is
 
     ct_is : ct ≡ sealed p k.seed e.msg e.salt
     ct_is = o.ciphertext ∙ sealed_is

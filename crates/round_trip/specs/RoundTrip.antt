@@ -20,14 +20,14 @@ use Rattle.frodo.specs.Margin.{MarginLent, margin_leaves}
 -- two calls of one set that were done, the second lent the first's public key
 pub record Sealed (k : KeypairLent) (e : EncapsLent) : Type 0 where
   pub sealed_set : e.set ≡ k.set
-  pub public_key_lem : e.pk ≡ (keypair_leaves k).pk
+  pub public_key : e.pk ≡ (keypair_leaves k).pk
   pub keys_done : (keypair_leaves k).answer ≡ Done
   pub sealing_done : (encaps_leaves e).answer ≡ Done
 
 -- an opening of that set is lent the first's secret key and the second's ciphertext, and room of its own: for a secret, and two scratches
 pub record Opens (k : KeypairLent) (e : EncapsLent) (set : ℕ) (sk ct : List ℕ) (ss noise work : ℕ) : Type 0 where
   pub opened_set : set ≡ k.set
-  pub secret_key_lem : sk ≡ (keypair_leaves k).sk
+  pub secret_key : sk ≡ (keypair_leaves k).sk
   pub ciphertext : ct ≡ (encaps_leaves e).ct
   pub ss_long : ss ≡ (params_of k.set).secret
   pub scratch : Scratch (params_of k.set) noise work

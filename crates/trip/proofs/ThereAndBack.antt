@@ -39,8 +39,8 @@ module _ (i : TripLent) where
       → length i.opened ≡ (params_of i.set).secret → length i.back ≡ (params_of i.set).secret
       → Scratch (params_of i.set) (length (sealing_left i).noise) (length (sealing_left i).work) → Trip (keys_lent i) second third
   trip keys sealing opened_long back_long room = record {
-    sealed = record { sealed_set = refl; public_key_lem = refl; keys_done = keys; sealing_done = sealing };
-    opens = record { opened_set = refl; secret_key_lem = refl; ciphertext = refl; ss_long = opened_long; scratch = room };
+    sealed = record { sealed_set = refl; public_key = refl; keys_done = keys; sealing_done = sealing };
+    opens = record { opened_set = refl; secret_key = refl; ciphertext = refl; ss_long = opened_long; scratch = room };
     msg_long = back_long;
   }
 
