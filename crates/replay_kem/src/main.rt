@@ -247,12 +247,7 @@ fn refusals(rt: &impl Print) -> io::Result<Tally> {
     )?))
 }
 
-fn replay_list(
-    rt: &(impl Files + Print),
-    name: &[u8],
-    path: &str,
-    command: u8,
-) -> io::Result<()> {
+fn replay_list(rt: &(impl Files + Print), name: &[u8], path: &str, command: u8) -> io::Result<()> {
     let mut text = [0u8; 524288];
     let n = replay::read(rt, path, &mut text)?;
     let tally = lines(rt, path.as_bytes(), &text[0..n], command)?;

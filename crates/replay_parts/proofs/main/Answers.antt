@@ -1,0 +1,15 @@
+-- `main` is safe: what is read lies within the text. The lemma is for any number, so that nothing counts to the text's length.
+-- Assumes nothing.
+use Rattle.std.proofs.Common.{◌≡◌, length, replicate, ℕ, sym}
+use Rattle.std.proofs.lemmas.List.{length-replicate}
+use Rattle.replay_parts.proofs.main.Goals as goal
+
+-- a list of as many bytes as the number says
+long : (n x : ℕ) → n ≡ length (replicate n x)
+long n x = sym (length-replicate n x)
+
+pub slice_bounds-read-end-2 : goal.slice_bounds-read-end-2
+slice_bounds-read-end-2 c = long 262144 0
+
+pub slice_bounds-report-end : goal.slice_bounds-report-end
+slice_bounds-report-end c = c.in_ok-n.ensures.within
