@@ -1,7 +1,7 @@
 -- The laws of products of matrices (specs/Matrix.antt): associative, distributive, and congruent where their factors are; over any n and q.
 -- Assumes nothing.
-use mathlib.Core.Path.{◌≡◌, refl, sym, ap, ◌∙◌, subst}
-use Prim.Native.Nat.{ℕ, zero, suc, ◌+◌, ◌*◌, ◌≤◌, ◌<◌}
+use mathlib.Core.Path.{◌≡◌, sym, ◌∙◌, subst}
+use Prim.Native.Nat.{ℕ, ◌+◌, ◌*◌, ◌≤◌, ◌<◌}
 use native.Mathlib.Nat.{mul_assoc, mul-le-mul, mul-le-mul_right, suc-mul, le-pred_of_lt}
 use native.Mathlib.Omega.{arith}
 use Rattle.algebra.specs.Sum.{sum}

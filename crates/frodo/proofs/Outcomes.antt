@@ -13,7 +13,6 @@ use Rattle.sets.specs.declared.Chosen.TheVariants.{Known, Unknown}
 use Rattle.sets.specs.declared.Answer.{Answer}
 use Rattle.sets.specs.declared.Answer.TheVariants.{Done, UnknownSet, SeedLength, PublicKeyLength, SecretKeyLength, CiphertextLength, MessageLength, SaltLength, SharedSecretLength, ScratchLength}
 use Rattle.sets.proofs.Facts.{picked}
-use Rattle.lengths.specs.Refusals.{tested}
 use Rattle.lengths.proofs.Shown.{tested_unknown, tested_known}
 use Rattle.frodo.specs.Outcome.{leaves}
 

@@ -2,10 +2,10 @@
 -- Assumes nothing.
 use mathlib.Core.Path.{◌≡◌, ap, ap₂, ◌∙◌, subst}
 use mathlib.Core.List.{List, ◌∷◌, ◌++◌}
-use Prim.Native.Nat.{ℕ, ◌+◌, ◌*◌, ◌-◌, ◌≤◌}
+use Prim.Native.Nat.{ℕ, ◌+◌, ◌*◌, ◌-◌}
 use native.Mathlib.Omega.{arith}
 use lib.ListN.{length, take, drop}
-use lib.Seq.{drop_at, take-take, take-add, take-append-le, length-take-le}
+use lib.Seq.{drop_at, take-take, take-append-le, length-take-le}
 use Rattle.lists.specs.Lists.{residues}
 use Rattle.lists.proofs.Filled.{drop_of_take}
 use Rattle.algebra.specs.Matrix.{mat, ◌⊕◌, mul, table}

@@ -1,7 +1,6 @@
 -- `agreement::both_agree` meets its contract: the two comparisons are those of `agrees`.
 -- Assumes nothing.
 use borrow.Author.Rules.{rules}
-use native.Mathlib.Omega.{arith}
 use Rattle.ciphertext.proofs.Lengths.{c1_long, c2_long}
 use Rattle.agreement.proofs.Laws.{long_B, both_compared}
 use Rattle.agreement.proofs.both_agree.Goals as goal

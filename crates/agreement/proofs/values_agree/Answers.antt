@@ -1,7 +1,6 @@
 -- `agreement::values_agree` meets its contract: C of c2 is unpacked in front of noise.
 -- Assumes nothing.
 use borrow.Author.Rules.{rules}
-use native.Mathlib.Omega.{arith}
 use Rattle.agreement.proofs.Laws.{values_compared}
 use Rattle.agreement.proofs.values_agree.Goals as goal
 

@@ -1,6 +1,5 @@
 -- `bench_as` is safe and ends.
 -- Assumes nothing.
-use borrow.Author.Rules.{rules}
 use native.Mathlib.Omega.{arith}
 use Rattle.bench_c.proofs.Set3.{valid_3, n_3}
 use Rattle.bench_c.proofs.bench_as.Goals as goal

@@ -2,11 +2,8 @@
 -- Assumes nothing.
 use mathlib.Core.Path.{◌≡◌}
 use Prim.Native.Nat.{◌≤◌, ◌-◌}
-use borrow.Author.Rules.{rules}
-use native.Mathlib.Omega.{arith}
 use lib.ListN.{length}
 use Rattle.sets.specs.Sets.{frodo1344}
-use Rattle.bench_c.proofs.Set3.{valid_3, n_3}
 use Rattle.bench_c.proofs.bench_rows.Given as goal
 
 abbrev pub invariant-loop-i : goal.invariant-loop-i

@@ -1,6 +1,5 @@
 -- `ciphertext::c1_part` meets its contract: c1 stands in front.
 -- Assumes nothing.
-use borrow.Author.Rules.{rules}
 use mathlib.Core.Path.{◌≡◌, ap}
 use native.Mathlib.Omega.{arith}
 use Prim.Native.Nat.{ℕ, ◌*◌, ◌-◌}

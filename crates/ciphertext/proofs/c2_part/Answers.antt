@@ -1,6 +1,5 @@
 -- `ciphertext::c2_part` meets its contract: c2 stands behind c1.
 -- Assumes nothing.
-use borrow.Author.Rules.{rules}
 use mathlib.Core.Path.{ap}
 use Prim.Native.Nat.{ℕ, ◌*◌}
 use native.Mathlib.Nat.{add-sub_cancel_left}

@@ -1,6 +1,5 @@
 -- `ciphertext::salt_part` meets its contract: the salt is all that stands behind c2.
 -- Assumes nothing.
-use borrow.Author.Rules.{rules}
 use native.Mathlib.Omega.{arith}
 use Prim.Native.Nat.{◌+◌, ◌*◌, ◌-◌}
 use lib.ListN.{length, drop, length-drop}

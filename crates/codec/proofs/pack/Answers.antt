@@ -1,6 +1,5 @@
 -- `codec::pack` meets its contract: each arm at its own width.
 -- Assumes nothing.
-use borrow.Author.Rules.{rules}
 use Rattle.codec.specs.Pack.{packed}
 use Rattle.codec.proofs.Widths.{carried, at15, is16, at16}
 use Rattle.codec.proofs.pack.Goals as goal

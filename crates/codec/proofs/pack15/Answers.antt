@@ -1,11 +1,10 @@
 -- `codec::pack15` meets its contract: after k turns the first 15k bytes are the packing of the first 8k words.
 -- Assumes nothing.
-use Prim.Native.Nat.{◌-◌, ◌*◌, ◌≤◌}
 use native.Mathlib.Omega.{arith}
 use borrow.Author.Rules.{rules}
 use mathlib.Core.Path.{◌≡◌, refl, ◌∙◌}
 use lib.ListN.{length, length-take, length-drop}
-use Rattle.lists.proofs.Parts.{Joins, Parts, parts_none, turn, turned}
+use Rattle.lists.proofs.Parts.{Joins, parts_none, turn, turned}
 use Rattle.codec.specs.Pack.{packed}
 use Rattle.codec.proofs.RoundTrip.{packs}
 use Rattle.codec.proofs.pack15.Goals as goal

@@ -1,11 +1,10 @@
 -- `codec::pack16` meets its contract: after i turns the first 2i bytes are the packing of the first i words.
 -- Assumes nothing.
-use Prim.Native.Nat.{◌-◌, ◌≤◌}
 use native.Mathlib.Omega.{arith}
-use mathlib.Core.Path.{◌≡◌, refl, ◌∙◌}
-use lib.ListN.{length, length-set}
+use mathlib.Core.Path.{refl, ◌∙◌}
+use lib.ListN.{length-set}
 use Rattle.lists.proofs.Tables.{cons}
-use Rattle.lists.proofs.Parts.{Joins, Parts, parts_none, turned}
+use Rattle.lists.proofs.Parts.{Joins, parts_none, turned}
 use Rattle.lists.proofs.Pairs.{turn_pair}
 use Rattle.codec.specs.Pack.{packed}
 use Rattle.codec.proofs.RoundTrip.{packs}

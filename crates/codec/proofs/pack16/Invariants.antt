@@ -1,15 +1,10 @@
 -- `codec::pack16` meets its contract: after i turns the first 2i bytes are the packing of the first i words.
 -- Assumes nothing.
-use Prim.Native.Nat.{◌-◌, ◌≤◌}
-use native.Mathlib.Omega.{arith}
-use mathlib.Core.Path.{◌≡◌, refl, ◌∙◌}
-use lib.ListN.{length, length-set}
-use Rattle.lists.proofs.Tables.{cons}
-use Rattle.lists.proofs.Parts.{Joins, Parts, parts_none, turned}
-use Rattle.lists.proofs.Pairs.{turn_pair}
+use Prim.Native.Nat.{◌≤◌}
+use mathlib.Core.Path.{◌≡◌}
+use lib.ListN.{length}
+use Rattle.lists.proofs.Parts.{Parts}
 use Rattle.codec.specs.Pack.{packed}
-use Rattle.codec.proofs.RoundTrip.{packs}
-use Rattle.codec.proofs.Sixteen.{pack_one}
 use Rattle.codec.proofs.pack16.Given as goal
 
 abbrev pub invariant-loop-i : goal.invariant-loop-i

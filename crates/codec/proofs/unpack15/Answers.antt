@@ -1,12 +1,11 @@
 -- `codec::unpack15` meets its contract: after k turns the first 8k words are the unpacking of the first 15k bytes.
 -- Assumes nothing.
-use Prim.Native.Nat.{◌-◌, ◌*◌, ◌≤◌}
 use native.Mathlib.Omega.{arith}
 use borrow.Author.Rules.{rules}
 use mathlib.Core.Path.{◌≡◌, refl, ◌∙◌}
 use lib.Dec.{lit<}
 use lib.ListN.{length, length-take, length-drop}
-use Rattle.lists.proofs.Parts.{Joins, Parts, parts_none, turn, turned}
+use Rattle.lists.proofs.Parts.{Joins, parts_none, turn, turned}
 use Rattle.codec.specs.Pack.{unpacked}
 use Rattle.codec.proofs.RoundTrip.{unpacks}
 use Rattle.codec.proofs.unpack15.Goals as goal

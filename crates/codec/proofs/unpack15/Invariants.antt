@@ -1,14 +1,10 @@
 -- `codec::unpack15` meets its contract: after k turns the first 8k words are the unpacking of the first 15k bytes.
 -- Assumes nothing.
 use Prim.Native.Nat.{◌-◌, ◌*◌, ◌≤◌}
-use native.Mathlib.Omega.{arith}
-use borrow.Author.Rules.{rules}
-use mathlib.Core.Path.{◌≡◌, refl, ◌∙◌}
-use lib.Dec.{lit<}
-use lib.ListN.{length, length-take, length-drop}
-use Rattle.lists.proofs.Parts.{Joins, Parts, parts_none, turn, turned}
+use mathlib.Core.Path.{◌≡◌}
+use lib.ListN.{length}
+use Rattle.lists.proofs.Parts.{Parts}
 use Rattle.codec.specs.Pack.{unpacked}
-use Rattle.codec.proofs.RoundTrip.{unpacks}
 use Rattle.codec.proofs.unpack15.Given as goal
 
 abbrev pub invariant-loop-k : goal.invariant-loop-k

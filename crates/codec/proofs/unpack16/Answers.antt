@@ -1,12 +1,11 @@
 -- `codec::unpack16` meets its contract: after i turns the first i words are the unpacking of the first 2i bytes.
 -- Assumes nothing.
-use Prim.Native.Nat.{◌+◌, ◌-◌, ◌*◌, ◌≤◌}
+use Prim.Native.Nat.{◌+◌, ◌*◌}
 use native.Mathlib.Omega.{arith}
-use mathlib.Core.Path.{◌≡◌, refl, ◌∙◌}
+use mathlib.Core.Path.{refl, ◌∙◌}
 use lib.Dec.{lit<}
-use lib.ListN.{length}
 use Rattle.lists.proofs.Tables.{cons}
-use Rattle.lists.proofs.Parts.{Joins, Parts, parts_none, turned}
+use Rattle.lists.proofs.Parts.{Joins, parts_none, turned}
 use Rattle.lists.proofs.Pairs.{turn_single}
 use Rattle.codec.specs.Pack.{unpacked}
 use Rattle.codec.proofs.RoundTrip.{unpacks}

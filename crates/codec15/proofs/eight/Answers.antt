@@ -1,6 +1,5 @@
 -- `codec15::eight` meets its contract: each formula is a byte of Frodo.Pack's bit string.
 -- Assumes nothing.
-use borrow.Author.Rules.{rules}
 use Rattle.codec15.proofs.Straight.{pack_eight}
 use Rattle.codec15.proofs.eight.Goals as goal
 

@@ -1,6 +1,5 @@
 -- `codec15::fifteen` meets its contract: each formula is a word of Frodo.Pack's bit string.
 -- Assumes nothing.
-use borrow.Author.Rules.{rules}
 use native.Mathlib.Omega.{arith}
 use Rattle.codec15.proofs.Straight.{unpack_fifteen}
 use Rattle.codec15.proofs.fifteen.Goals as goal

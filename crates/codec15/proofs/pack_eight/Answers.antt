@@ -1,6 +1,5 @@
 -- `codec15::pack_eight` meets its contract: a list of 8 elements is those elements.
 -- Assumes nothing.
-use native.Mathlib.Omega.{arith}
 use Rattle.lists.proofs.Tables.{written_out}
 use Rattle.bits.specs.Stream.{regrouped}
 use Rattle.codec15.proofs.pack_eight.Goals as goal

@@ -1,7 +1,5 @@
 -- `decaps::chosen_secret` meets its contract.
 -- Assumes nothing.
-use borrow.Author.Rules.{rules}
-use native.Mathlib.Omega.{arith}
 use lib.ListN.{length}
 use Rattle.decaps.proofs.Laws.{chosen_law}
 use Rattle.decaps.proofs.chosen_secret.Goals as goal

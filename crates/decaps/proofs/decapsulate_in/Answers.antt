@@ -1,7 +1,6 @@
 -- `decaps::decapsulate_in` meets its contract: the secret goes with the message that was opened.
 -- Assumes nothing.
 use borrow.Author.Rules.{rules}
-use native.Mathlib.Omega.{arith}
 use Rattle.decaps.proofs.Laws.{opened_law}
 use Rattle.decaps.proofs.decapsulate_in.Goals as goal
 

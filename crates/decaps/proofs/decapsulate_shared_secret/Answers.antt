@@ -1,7 +1,6 @@
 -- `decaps::decapsulate_shared_secret` meets its contract.
 -- Assumes nothing.
 use borrow.Author.Rules.{rules}
-use native.Mathlib.Omega.{arith}
 use Rattle.decaps.proofs.decapsulate_shared_secret.Goals as goal
 
 pub decapsulate-requires : goal.decapsulate-requires

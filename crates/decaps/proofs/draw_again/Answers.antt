@@ -1,7 +1,5 @@
 -- `decaps::draw_again` meets its contract: pkh is the last part of the key.
 -- Assumes nothing.
-use borrow.Author.Rules.{rules}
-use native.Mathlib.Omega.{arith}
 use Rattle.decaps.proofs.Laws.{drawn_again}
 use Rattle.decaps.proofs.draw_again.Goals as goal
 

@@ -1,7 +1,5 @@
 -- `decaps::secret_of` meets its contract: the choice is between k' and s.
 -- Assumes nothing.
-use borrow.Author.Rules.{rules}
-use native.Mathlib.Omega.{arith}
 use mathlib.Core.Path.{sym, ◌∙◌}
 use Rattle.scheme.specs.Decaps.{agrees}
 use Rattle.decaps.proofs.Laws.{front_is_seed_se, secrets_long, secret_law, choice_le}

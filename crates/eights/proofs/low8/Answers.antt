@@ -1,6 +1,5 @@
 -- `eights::low8` meets its contract: each word is what `low` gives of it.
 -- Assumes nothing.
-use borrow.Author.Rules.{rules}
 use native.Mathlib.Omega.{arith}
 use mathlib.Core.Path.{◌≡◌, sym, ap, ◌∙◌}
 use mathlib.Core.List.{◌∷◌, []}

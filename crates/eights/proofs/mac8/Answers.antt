@@ -1,6 +1,5 @@
 -- `eights::mac8` meets its contract: each word is what `mac` gives of it.
 -- Assumes nothing.
-use borrow.Author.Rules.{rules}
 use mathlib.Core.List.{◌∷◌, []}
 use Rattle.eights.proofs.mac8.Goals as goal
 

@@ -2,9 +2,7 @@
 -- Assumes nothing.
 use native.Mathlib.Omega.{arith}
 use mathlib.Core.Path.{refl}
-use Prim.Native.Nat.{◌-◌, ◌≤◌}
-use lib.ListN.{get_or}
-use Rattle.lists.proofs.Loops.{Upto, none, more, copied_all}
+use Rattle.lists.proofs.Loops.{none, more, copied_all}
 use Rattle.eights.proofs.store8.Goals as goal
 
 pub loop-i-init : goal.loop-i-init

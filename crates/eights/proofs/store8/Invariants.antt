@@ -1,10 +1,8 @@
 -- `eights::store8` meets its contract: after i turns the first i words stand.
 -- Assumes nothing.
-use native.Mathlib.Omega.{arith}
-use mathlib.Core.Path.{refl}
 use Prim.Native.Nat.{◌-◌, ◌≤◌}
 use lib.ListN.{get_or}
-use Rattle.lists.proofs.Loops.{Upto, none, more, copied_all}
+use Rattle.lists.proofs.Loops.{Upto}
 use Rattle.eights.proofs.store8.Given as goal
 
 abbrev pub invariant-loop-i : goal.invariant-loop-i

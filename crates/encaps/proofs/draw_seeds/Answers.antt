@@ -1,6 +1,5 @@
 -- `encaps::draw_seeds` meets its contract.
 -- Assumes nothing.
-use borrow.Author.Rules.{rules}
 use Rattle.encaps.proofs.Seeds.{draw_law}
 use Rattle.encaps.proofs.draw_seeds.Goals as goal
 

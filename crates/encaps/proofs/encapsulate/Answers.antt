@@ -1,6 +1,5 @@
 -- `encaps::encapsulate` meets its contract: seedSE' and k are drawn into the front of an array, and read from there.
 -- Assumes nothing.
-use borrow.Author.Rules.{rules}
 use Rattle.encaps.proofs.Seeds.{front_room, front_law}
 use Rattle.encaps.proofs.encapsulate.Goals as goal
 

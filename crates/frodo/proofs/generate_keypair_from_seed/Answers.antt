@@ -1,7 +1,6 @@
 -- `generate_keypair_from_seed` leaves what `keypair_leaves` says, on each of its three ways out.
 -- Assumes nothing.
 use mathlib.Core.Path.{◌≡◌, sym, ◌∙◌}
-use borrow.Author.Rules.{rules}
 use Rattle.sets.specs.Sets.{chosen}
 use Rattle.sets.specs.declared.Chosen.TheVariants.{Known}
 use Rattle.sets.specs.declared.Answer.TheVariants.{Done}

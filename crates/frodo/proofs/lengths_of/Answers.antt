@@ -3,7 +3,6 @@
 use mathlib.Core.Path.{◌≡◌, sym, ap, ◌∙◌}
 use mathlib.Core.Bool.{Bool, true, false, cond}
 use Prim.Native.Nat.{ℕ}
-use borrow.Author.Rules.{rules}
 use Rattle.sets.specs.Sets.{known, params_of}
 use Rattle.sets.proofs.Facts.{picked, refused}
 use Rattle.frodo.specs.SetLengths.{lengths_of, no_lengths, lengths_for}

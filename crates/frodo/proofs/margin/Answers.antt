@@ -1,7 +1,6 @@
 -- `margin` leaves what `margin_leaves` says, on each of its three ways out.
 -- Assumes nothing.
 use mathlib.Core.Path.{◌≡◌, sym, ap, ◌∙◌}
-use borrow.Author.Rules.{rules}
 use Rattle.sets.specs.Sets.{chosen}
 use Rattle.sets.specs.declared.Chosen.TheVariants.{Known}
 use Rattle.lengths.proofs.Shown.{margin_shown, known_valid}

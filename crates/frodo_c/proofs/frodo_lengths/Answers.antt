@@ -1,7 +1,6 @@
 -- `frodo_lengths` answers the table: its numbers fit, so that the casts keep them.
 -- Assumes nothing.
 use mathlib.Core.Path.{sym, ap, ◌∙◌, subst}
-use borrow.Author.Rules.{rules}
 use Rattle.frodo_c.specs.Table.{Fits, lengths_in_c}
 use Rattle.frodo_c.proofs.Fits.{fits}
 use Rattle.frodo_c.proofs.frodo_lengths.Goals as goal

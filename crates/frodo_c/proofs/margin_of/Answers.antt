@@ -1,6 +1,5 @@
 -- `margin_of` meets its contract: the answer by its number, the verdict by 1 or 0, the rest as it is.
 -- Assumes nothing.
-use borrow.Author.Rules.{rules}
 use Rattle.frodo_c.proofs.margin_of.Goals as goal
 
 pub returns : goal.returns

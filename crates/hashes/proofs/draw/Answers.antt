@@ -1,7 +1,6 @@
 -- `hashes::draw` meets its contract: SHAKE of the tag and the seed gives the words, and the table makes them noise.
 -- Assumes nothing.
 use mathlib.Core.Path.{ap, ◌∙◌}
-use borrow.Author.Rules.{rules}
 use Rattle.scheme.specs.Parts.{hash, stored_samples}
 use Rattle.hashes.proofs.Laws.{rate_even}
 use Rattle.hashes.proofs.draw.Goals as goal

@@ -1,15 +1,13 @@
 -- `hashes::store_each` meets its contract: after i turns the first i words are noise.
 -- Assumes nothing.
-use Prim.Native.Nat.{ℕ, ◌≤◌, ◌-◌}
+use Prim.Native.Nat.{ℕ}
 use native.Mathlib.Omega.{arith}
-use borrow.Author.Rules.{rules}
-use mathlib.Core.Path.{◌≡◌, refl, sym, ap, ◌∙◌}
+use mathlib.Core.Path.{refl, sym, ap, ◌∙◌}
 use mathlib.Core.List.{map-map}
 use lib.IntN.{ℤ}
-use lib.ListN.{length, get_or}
 use mir.Syntax.{w16}
 use mir.Facts.{to_z-of_z}
-use Rattle.lists.proofs.Loops.{Upto, none, more, past, mapped_all}
+use Rattle.lists.proofs.Loops.{none, more, past, mapped_all}
 use Rattle.noise.specs.Noise.{sampled, table_of}
 use Rattle.scheme.specs.Parts.{stored}
 use Rattle.hashes.proofs.store_each.Goals as goal

@@ -1,14 +1,9 @@
 -- `hashes::store_each` meets its contract: after i turns the first i words are noise.
 -- Assumes nothing.
-use Prim.Native.Nat.{ℕ, ◌≤◌, ◌-◌}
-use native.Mathlib.Omega.{arith}
-use borrow.Author.Rules.{rules}
-use mathlib.Core.Path.{◌≡◌, refl, sym, ap, ◌∙◌}
-use mathlib.Core.List.{map-map}
-use lib.IntN.{ℤ}
+use Prim.Native.Nat.{◌≤◌}
+use mathlib.Core.Path.{◌≡◌}
 use lib.ListN.{length, get_or}
-use mir.Facts.{to_z-of_z}
-use Rattle.lists.proofs.Loops.{Upto, none, more, past, mapped_all}
+use Rattle.lists.proofs.Loops.{Upto}
 use Rattle.noise.specs.Noise.{sampled, table_of}
 use Rattle.scheme.specs.Parts.{stored}
 use Rattle.hashes.proofs.store_each.Given as goal

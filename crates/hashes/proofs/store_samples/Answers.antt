@@ -1,6 +1,5 @@
 -- `hashes::store_samples` meets its contract: each arm runs the loop of the distribution that it was picked for.
 -- Assumes nothing.
-use borrow.Author.Rules.{rules}
 use mathlib.Core.Path.{◌≡◌, sym, ap, ◌∙◌}
 use mathlib.Core.List.{List}
 use Prim.Native.Nat.{ℕ}

@@ -1,6 +1,5 @@
 -- `hashes::stored` meets its contract: 2^16 more is no negative number, and its remainder is the same.
 -- Assumes nothing.
-use borrow.Author.Rules.{rules}
 use Rattle.hashes.proofs.Words.{read_fits, sum_fits, not_negative, stored_is}
 use Rattle.hashes.proofs.stored.Goals as goal
 

@@ -3,7 +3,6 @@
 use mathlib.Core.List.{List, ◌++◌}
 use Prim.Native.Nat.{ℕ}
 use lib.ListN.{get_or}
-use borrow.Author.Rules.{rules}
 use Rattle.lists.specs.Lists.{tab}
 use Rattle.keccak.specs.Keccak.{chi}
 use Rattle.keccak.proofs.chi.Goals as goal

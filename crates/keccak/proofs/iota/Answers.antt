@@ -1,7 +1,6 @@
 -- FIPS 202 (2015), iota: `iota` adds the constant that it is given.
 -- Assumes nothing.
 use mathlib.Core.Path.{refl}
-use borrow.Author.Rules.{rules}
 use Rattle.keccak.specs.Keccak.{iota_with}
 use Rattle.keccak.proofs.iota.Goals as goal
 

@@ -2,10 +2,9 @@
 -- Assumes nothing.
 use mathlib.Core.Path.{◌≡◌, refl, sym, ap, ◌∙◌}
 use mathlib.Core.List.{List}
-use Prim.Native.Nat.{ℕ, ◌-◌, ◌≤◌}
+use Prim.Native.Nat.{ℕ}
 use native.Mathlib.Numerals.{add-one}
 use native.Mathlib.Omega.{arith}
-use borrow.Author.Rules.{rules}
 use Rattle.keccak.specs.Keccak.{theta, rho, pi, chi, iota_with, iota, round, rounds, keccak_f}
 use Rattle.keccak.proofs.Constants.{constant_at}
 use Rattle.keccak.proofs.keccak_f.Goals as goal

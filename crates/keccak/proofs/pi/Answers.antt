@@ -1,7 +1,6 @@
 -- FIPS 202 (2015), pi: `pi` is pi, by computation.
 -- Assumes nothing.
 use mathlib.Core.Path.{refl}
-use borrow.Author.Rules.{rules}
 use Rattle.keccak.specs.Keccak.{pi}
 use Rattle.keccak.proofs.pi.Goals as goal
 

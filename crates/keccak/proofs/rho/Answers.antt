@@ -5,7 +5,6 @@ use mathlib.Core.List.{List}
 use Prim.Native.Nat.{ℕ}
 use lib.ListN.{get_or}
 use mir.Syntax.{w64}
-use borrow.Author.Rules.{rules}
 use Rattle.lists.specs.Lists.{tab}
 use Rattle.lists.proofs.Tables.{cons}
 use Rattle.lists.proofs.Arrays.{array_below}

@@ -1,6 +1,5 @@
 -- FIPS 202 (2015), rho: `rotl` rotates a lane.
 -- Assumes nothing.
-use borrow.Author.Rules.{rules}
 use native.Mathlib.Omega.{arith}
 use Rattle.keccak.proofs.Rotation.{rotl_or}
 use Rattle.keccak.proofs.rotl.Goals as goal

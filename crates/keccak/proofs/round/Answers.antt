@@ -1,8 +1,7 @@
 -- FIPS 202 (2015), KECCAK-p's round: `round` is the five steps in order.
 -- Assumes nothing.
 use mathlib.Core.Path.{ap, ◌∙◌}
-use borrow.Author.Rules.{rules}
-use Rattle.keccak.specs.Keccak.{theta, rho, pi, chi, iota_with}
+use Rattle.keccak.specs.Keccak.{rho, pi, chi, iota_with}
 use Rattle.keccak.proofs.round.Goals as goal
 
 pub returns : goal.returns

@@ -1,6 +1,5 @@
 -- `keypair::generate` meets its contract: the two keys, and then zeros.
 -- Assumes nothing.
-use borrow.Author.Rules.{rules}
 use native.Mathlib.Omega.{arith}
 use Rattle.keypair.proofs.Keypair.{secret_sized, keypair_made}
 use Rattle.keypair.proofs.generate.Goals as goal

@@ -1,6 +1,5 @@
 -- `keypair::secret_key` meets its contract: four parts in a row.
 -- Assumes nothing.
-use borrow.Author.Rules.{rules}
 use mathlib.Core.Path.{ap, ◌∙◌}
 use lib.ListN.{length}
 use Rattle.keypair.proofs.SecretKey.{secret_long, secret_made}

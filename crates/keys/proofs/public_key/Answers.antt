@@ -1,6 +1,5 @@
 -- `keys::public_key` meets its contract: seedA, and B packed behind it.
 -- Assumes nothing.
-use borrow.Author.Rules.{rules}
 use native.Mathlib.Omega.{arith}
 use Rattle.keys.proofs.PublicKey.{front_is_seed_a, packs_B, public_made}
 use Rattle.keys.proofs.public_key.Goals as goal

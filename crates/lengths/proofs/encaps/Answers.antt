@@ -1,6 +1,5 @@
 -- `lengths::encaps` meets its contract: the calls are nested as the definition's tests are.
 -- Assumes nothing.
-use borrow.Author.Rules.{rules}
 use Rattle.lengths.proofs.encaps.Goals as goal
 
 pub returns : goal.returns

@@ -3,11 +3,10 @@
 use native.Mathlib.Omega.{arith}
 use mathlib.Core.Path.{◌≡◌, ap, ◌∙◌}
 use mathlib.Core.List.{List}
-use Prim.Native.Nat.{ℕ, ◌+◌, ◌*◌, ◌-◌, ◌≤◌}
+use Prim.Native.Nat.{ℕ, ◌+◌, ◌*◌, ◌≤◌}
 use lib.ListN.{length, get_or}
 use Rattle.lists.specs.Lists.{tab, residues}
 use Rattle.lists.proofs.Tables.{tab_cong}
-use Rattle.algebra.specs.Matrix.{Matrix, mat, ◌⊕◌}
 use Rattle.algebra.proofs.Products.{within}
 use Rattle.algebra.proofs.Turns.{Rows, rows_none, rows_more, rows_held, rows_all, part}
 use Rattle.loops.proofs.add_row.Goals as goal

@@ -1,15 +1,10 @@
 -- `loops::add_row` meets its contract: after i turns the first i rows have their product added.
 -- Assumes nothing.
-use native.Mathlib.Omega.{arith}
-use mathlib.Core.Path.{◌≡◌, ap, ◌∙◌}
 use mathlib.Core.List.{List}
-use Prim.Native.Nat.{ℕ, ◌+◌, ◌*◌, ◌-◌, ◌≤◌}
-use lib.ListN.{length, get_or}
-use Rattle.lists.specs.Lists.{tab, residues}
-use Rattle.lists.proofs.Tables.{tab_cong}
+use Prim.Native.Nat.{ℕ, ◌*◌, ◌-◌, ◌≤◌}
+use lib.ListN.{get_or}
 use Rattle.algebra.specs.Matrix.{Matrix, mat, ◌⊕◌}
-use Rattle.algebra.proofs.Products.{within}
-use Rattle.algebra.proofs.Turns.{Rows, rows_none, rows_more, rows_held, rows_all, part}
+use Rattle.algebra.proofs.Turns.{Rows}
 use Rattle.loops.proofs.add_row.Given as goal
 
 -- out with column k of s times the row added

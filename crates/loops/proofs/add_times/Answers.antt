@@ -2,11 +2,11 @@
 -- Assumes nothing.
 use native.Mathlib.Omega.{arith}
 use mathlib.Core.Path.{◌≡◌, refl, sym, ap, ◌∙◌}
-use Prim.Native.Nat.{ℕ, ◌+◌, ◌*◌, ◌-◌, ◌%◌, ◌≤◌}
+use Prim.Native.Nat.{ℕ, ◌+◌, ◌*◌, ◌%◌}
 use lib.ListN.{length, get_or}
 use Rattle.lists.specs.Lists.{tab}
 use Rattle.lists.proofs.Tables.{map_of_tab}
-use Rattle.lists.proofs.Loops.{Upto, none, more, past, all}
+use Rattle.lists.proofs.Loops.{none, more, past, all}
 use Rattle.loops.proofs.add_times.Goals as goal
 
 pub loop-j-init : goal.loop-j-init

@@ -1,12 +1,9 @@
 -- `loops::add_times` meets its contract: after j turns the first j words have their product added.
 -- Assumes nothing.
-use native.Mathlib.Omega.{arith}
-use mathlib.Core.Path.{◌≡◌, refl, sym, ap, ◌∙◌}
-use Prim.Native.Nat.{ℕ, ◌+◌, ◌*◌, ◌-◌, ◌%◌, ◌≤◌}
+use mathlib.Core.Path.{◌≡◌}
+use Prim.Native.Nat.{◌+◌, ◌*◌, ◌%◌, ◌≤◌}
 use lib.ListN.{length, get_or}
-use Rattle.lists.specs.Lists.{tab}
-use Rattle.lists.proofs.Tables.{map_of_tab}
-use Rattle.lists.proofs.Loops.{Upto, none, more, past, all}
+use Rattle.lists.proofs.Loops.{Upto}
 use Rattle.loops.proofs.add_times.Given as goal
 
 abbrev pub invariant-loop-j : goal.invariant-loop-j

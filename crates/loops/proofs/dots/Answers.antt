@@ -2,7 +2,6 @@
 -- Assumes nothing.
 use native.Mathlib.Omega.{arith}
 use mathlib.Core.Path.{◌≡◌, ap, ◌∙◌}
-use Prim.Native.Nat.{◌-◌, ◌≤◌}
 use Rattle.algebra.specs.Matrix.{mat_t}
 use Rattle.loops.proofs.Eights.{gathered, gather_start, gather_turn}
 use Rattle.loops.proofs.dots.Goals as goal

@@ -1,10 +1,9 @@
 -- `loops::fold` meets its contract: after j turns j terms are taken in.
 -- Assumes nothing.
-use native.Mathlib.Omega.{arith}
-use mathlib.Core.Path.{◌≡◌, ap, ◌∙◌}
+use mathlib.Core.Path.{◌≡◌}
 use Prim.Native.Nat.{◌-◌, ◌≤◌}
 use Rattle.algebra.specs.Matrix.{mat}
-use Rattle.loops.proofs.Eights.{gathered, gather_start, gather_turn}
+use Rattle.loops.proofs.Eights.{gathered}
 use Rattle.loops.proofs.fold.Given as goal
 
 abbrev pub invariant-loop-j : goal.invariant-loop-j

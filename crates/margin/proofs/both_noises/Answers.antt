@@ -1,6 +1,5 @@
 -- `margin::both_noises` meets its contract: the key's noise in work, encapsulation's in noise, and then E and E' exchanged.
 -- Assumes nothing.
-use borrow.Author.Rules.{rules}
 use native.Mathlib.Omega.{arith}
 use Rattle.margin.proofs.Laws.{both_made}
 use Rattle.margin.proofs.both_noises.Goals as goal

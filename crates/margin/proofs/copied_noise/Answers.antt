@@ -1,6 +1,5 @@
 -- `margin::copied_noise` meets its contract: the key's noise, and a copy of it.
 -- Assumes nothing.
-use borrow.Author.Rules.{rules}
 use Rattle.margin.proofs.Laws.{copy_made}
 use Rattle.margin.proofs.copied_noise.Goals as goal
 

@@ -1,6 +1,5 @@
 -- `margin::key_noise` meets its contract: seedA, the key's matrices, and the hash of the public key that they make.
 -- Assumes nothing.
-use borrow.Author.Rules.{rules}
 use mathlib.Core.Path.{refl}
 use Rattle.margin.proofs.Laws.{is_seed_a, key_made}
 use Rattle.margin.proofs.key_noise.Goals as goal

@@ -1,6 +1,5 @@
 -- `margin::key_product` meets its contract.
 -- Assumes nothing.
-use borrow.Author.Rules.{rules}
 use Rattle.margin.proofs.Noise.{key_product_is}
 use Rattle.margin.proofs.key_product.Goals as goal
 

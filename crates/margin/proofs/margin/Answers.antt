@@ -1,6 +1,5 @@
 -- `margin::margin` meets its contract: the noise of both sides, its difference, the measure, and then zeros.
 -- Assumes nothing.
-use borrow.Author.Rules.{rules}
 use Prim.Native.Nat.{◌≤◌}
 use native.Mathlib.Omega.{arith}
 use lib.ListN.{replicate}

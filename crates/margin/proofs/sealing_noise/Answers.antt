@@ -1,6 +1,5 @@
 -- `margin::sealing_noise` meets its contract: seedSE' and k are hashed, and the noise drawn over seedSE'.
 -- Assumes nothing.
-use borrow.Author.Rules.{rules}
 use Rattle.margin.proofs.Laws.{sealing_drawn}
 use Rattle.margin.proofs.sealing_noise.Goals as goal
 

@@ -1,10 +1,8 @@
 -- `margin::swap` meets its contract: after i turns the first i words are exchanged.
 -- Assumes nothing.
-use mathlib.Core.Path.{◌≡◌, refl}
-use Prim.Native.Nat.{◌-◌, ◌≤◌}
+use mathlib.Core.Path.{refl}
 use native.Mathlib.Omega.{arith}
-use lib.ListN.{length, get_or}
-use Rattle.lists.proofs.Loops.{Upto, none, more, past, copied_all}
+use Rattle.lists.proofs.Loops.{none, more, past, copied_all}
 use Rattle.margin.proofs.swap.Goals as goal
 
 pub loop-i-init : goal.loop-i-init

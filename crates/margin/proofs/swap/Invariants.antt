@@ -1,10 +1,9 @@
 -- `margin::swap` meets its contract: after i turns the first i words are exchanged.
 -- Assumes nothing.
-use mathlib.Core.Path.{◌≡◌, refl}
-use Prim.Native.Nat.{◌-◌, ◌≤◌}
-use native.Mathlib.Omega.{arith}
+use mathlib.Core.Path.{◌≡◌}
+use Prim.Native.Nat.{◌≤◌}
 use lib.ListN.{length, get_or}
-use Rattle.lists.proofs.Loops.{Upto, none, more, past, copied_all}
+use Rattle.lists.proofs.Loops.{Upto}
 use Rattle.margin.proofs.swap.Given as goal
 
 abbrev pub invariant-loop-i : goal.invariant-loop-i

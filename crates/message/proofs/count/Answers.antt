@@ -1,6 +1,5 @@
 -- `message::count` meets its contract: 2^b is below 2^32.
 -- Assumes nothing.
-use borrow.Author.Rules.{rules}
 use native.Mathlib.Omega.{arith}
 use Prim.Native.Nat.{◌*◌, ◌^◌}
 use mathlib.Core.Path.{◌∙◌}

@@ -1,13 +1,11 @@
 -- `message::decode_message` meets its contract: after k turns the first bk bytes are those of the first 8k words.
 -- Assumes nothing.
-use Prim.Native.Nat.{ℕ, ◌+◌, ◌-◌, ◌*◌, ◌≤◌}
+use Prim.Native.Nat.{ℕ, ◌+◌, ◌*◌, ◌≤◌}
 use native.Mathlib.Omega.{arith}
-use borrow.Author.Rules.{rules}
 use mathlib.Core.Path.{◌≡◌, ap, ◌∙◌}
 use lib.ListN.{length-take, length-drop}
-use Rattle.lists.proofs.Parts.{Parts, parts_none, turn, turned}
+use Rattle.lists.proofs.Parts.{parts_none, turn, turned}
 use Rattle.lists.proofs.Spans.{room, length_part}
-use Rattle.message.specs.Message.{decoded}
 use Rattle.message.proofs.Codes.{decodes, decode_part}
 use Rattle.message.proofs.decode_message.Goals as goal
 use Rattle.message.proofs.decode_message.Goals.{In-loop-k}

@@ -4,9 +4,8 @@ use Prim.Native.Nat.{ℕ, ◌+◌, ◌-◌, ◌*◌, ◌≤◌}
 use native.Mathlib.Omega.{arith}
 use mathlib.Core.Path.{◌≡◌, sym, ap, ◌∙◌, subst}
 use lib.ListN.{length, take, drop, length-take, length-drop}
-use Rattle.lists.proofs.Parts.{Parts, parts_none, turn, turned}
+use Rattle.lists.proofs.Parts.{parts_none, turn, turned}
 use Rattle.lists.proofs.Spans.{room, length_part}
-use Rattle.message.specs.Message.{encoded}
 use Rattle.message.proofs.Codes.{encodes, encode_part}
 use Rattle.message.proofs.encode_message.Goals as goal
 use Rattle.message.proofs.encode_message.Goals.{In-loop-k}

@@ -1,13 +1,8 @@
 -- `message::encode_message` meets its contract: after k turns the first 8k words are those of the first bk bytes.
 -- Assumes nothing.
-use Prim.Native.Nat.{ℕ, ◌+◌, ◌-◌, ◌*◌, ◌≤◌}
-use native.Mathlib.Omega.{arith}
-use mathlib.Core.Path.{◌≡◌, sym, ap, ◌∙◌, subst}
-use lib.ListN.{length, take, drop, length-take, length-drop}
-use Rattle.lists.proofs.Parts.{Parts, parts_none, turn, turned}
-use Rattle.lists.proofs.Spans.{room, length_part}
+use Prim.Native.Nat.{◌-◌, ◌≤◌}
+use Rattle.lists.proofs.Parts.{Parts}
 use Rattle.message.specs.Message.{encoded}
-use Rattle.message.proofs.Codes.{encodes, encode_part}
 use Rattle.message.proofs.encode_message.Given as goal
 
 abbrev pub invariant-loop-k : goal.invariant-loop-k

@@ -1,6 +1,5 @@
 -- `message::low_bits` meets its contract: the mask of b bits.
 -- Assumes nothing.
-use borrow.Author.Rules.{rules}
 use native.Mathlib.Omega.{arith}
 use Prim.Native.Nat.{ℕ, ◌-◌}
 use mathlib.Core.Path.{ap, ◌∙◌}

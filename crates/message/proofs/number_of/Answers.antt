@@ -1,11 +1,11 @@
 -- `message::number_of` meets its contract: after i turns t is the number of the last i bytes.
 -- Assumes nothing.
-use Prim.Native.Nat.{◌-◌, ◌≤◌}
+use Prim.Native.Nat.{◌-◌}
 use native.Mathlib.Omega.{arith}
-use mathlib.Core.Path.{◌≡◌, refl}
+use mathlib.Core.Path.{refl}
 use lib.Dec.{lit<}
 use lib.ListN.{length}
-use Rattle.bits.proofs.FromTop.{Read, read_none, read_more, scaled_fits, more_fits, read_all}
+use Rattle.bits.proofs.FromTop.{read_none, read_more, scaled_fits, more_fits, read_all}
 use Rattle.message.proofs.Codes.{bytes_fit}
 use Rattle.message.proofs.number_of.Goals as goal
 

@@ -2,12 +2,12 @@
 -- Assumes nothing.
 use Prim.Native.Nat.{ℕ, ◌-◌, ◌^◌, ◌≤◌, ◌<◌}
 use native.Mathlib.Omega.{arith}
-use mathlib.Core.Path.{◌≡◌, sym, ap, ◌∙◌, subst}
+use mathlib.Core.Path.{sym, ap, ◌∙◌, subst}
 use mathlib.Core.List.{map}
 use lib.ListN.{length, length-map, get_or-map}
 use lib.Pow.{pow_pos}
 use Rattle.bits.specs.Digits.{number}
-use Rattle.bits.proofs.FromTop.{Read, read_none, read_more, scaled_fits, more_fits, read_all}
+use Rattle.bits.proofs.FromTop.{read_none, read_more, scaled_fits, more_fits, read_all}
 use Rattle.message.specs.Message.{group_of}
 use Rattle.message.proofs.Codes.{groups_fit}
 use Rattle.message.proofs.number_of_groups.Goals as goal

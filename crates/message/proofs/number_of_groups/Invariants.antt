@@ -1,15 +1,11 @@
 -- `message::number_of_groups` meets its contract: after i turns t is the number of the last i groups.
 -- Assumes nothing.
-use Prim.Native.Nat.{ℕ, ◌-◌, ◌^◌, ◌≤◌, ◌<◌}
-use native.Mathlib.Omega.{arith}
-use mathlib.Core.Path.{◌≡◌, sym, ap, ◌∙◌, subst}
+use Prim.Native.Nat.{◌-◌, ◌^◌, ◌≤◌}
+use mathlib.Core.Path.{◌≡◌}
 use mathlib.Core.List.{map}
-use lib.ListN.{length, length-map, get_or-map}
-use lib.Pow.{pow_pos}
-use Rattle.bits.specs.Digits.{number}
-use Rattle.bits.proofs.FromTop.{Read, read_none, read_more, scaled_fits, more_fits, read_all}
+use lib.ListN.{length}
+use Rattle.bits.proofs.FromTop.{Read}
 use Rattle.message.specs.Message.{group_of}
-use Rattle.message.proofs.Codes.{groups_fit}
 use Rattle.message.proofs.number_of_groups.Given as goal
 
 abbrev pub invariant-loop-i : goal.invariant-loop-i

@@ -1,13 +1,10 @@
 -- `message::put_bytes` meets its contract: after j turns t is n without its j lowest bytes.
 -- Assumes nothing.
-use Prim.Native.Nat.{ℕ, ◌-◌, ◌/◌, ◌%◌, ◌^◌, ◌≤◌}
-use native.Mathlib.Omega.{arith}
-use mathlib.Core.Path.{◌≡◌, refl, sym, ap, ◌∙◌}
-use native.Mathlib.Nat.{div-one}
+use Prim.Native.Nat.{◌/◌, ◌^◌, ◌≤◌}
+use mathlib.Core.Path.{◌≡◌}
 use lib.ListN.{length}
-use Rattle.lists.proofs.Loops.{Upto, none, more, all}
+use Rattle.lists.proofs.Loops.{Upto}
 use Rattle.bits.specs.Digits.{digit}
-use Rattle.bits.proofs.Digits.{next}
 use Rattle.message.proofs.put_bytes.Given as goal
 
 abbrev pub invariant-loop-j : goal.invariant-loop-j

@@ -1,12 +1,12 @@
 -- `message::put_words` meets its contract: after j turns t is n without its j lowest groups.
 -- Assumes nothing.
-use Prim.Native.Nat.{ℕ, ◌-◌, ◌/◌, ◌%◌, ◌^◌, ◌≤◌}
+use Prim.Native.Nat.{ℕ, ◌/◌, ◌%◌, ◌^◌}
 use native.Mathlib.Omega.{arith}
-use mathlib.Core.Path.{◌≡◌, sym, ap, ◌∙◌}
+use mathlib.Core.Path.{sym, ap, ◌∙◌}
 use native.Mathlib.Nat.{pow-zero, div-one}
 use Rattle.lists.specs.Lists.{tab}
 use Rattle.lists.proofs.Tables.{map_of_tab}
-use Rattle.lists.proofs.Loops.{Upto, none, more, all}
+use Rattle.lists.proofs.Loops.{none, more, all}
 use Rattle.bits.specs.Digits.{digit}
 use Rattle.bits.proofs.Digits.{next}
 use Rattle.message.specs.Message.{word_of}

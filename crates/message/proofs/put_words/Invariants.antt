@@ -1,14 +1,9 @@
 -- `message::put_words` meets its contract: after j turns t is n without its j lowest groups.
 -- Assumes nothing.
-use Prim.Native.Nat.{ℕ, ◌-◌, ◌/◌, ◌%◌, ◌^◌, ◌≤◌}
-use native.Mathlib.Omega.{arith}
-use mathlib.Core.Path.{◌≡◌, sym, ap, ◌∙◌}
-use native.Mathlib.Nat.{pow-zero, div-one}
-use Rattle.lists.specs.Lists.{tab}
-use Rattle.lists.proofs.Tables.{map_of_tab}
-use Rattle.lists.proofs.Loops.{Upto, none, more, all}
+use Prim.Native.Nat.{◌-◌, ◌/◌, ◌^◌, ◌≤◌}
+use mathlib.Core.Path.{◌≡◌}
+use Rattle.lists.proofs.Loops.{Upto}
 use Rattle.bits.specs.Digits.{digit}
-use Rattle.bits.proofs.Digits.{next}
 use Rattle.message.specs.Message.{word_of}
 use Rattle.message.proofs.put_words.Given as goal
 

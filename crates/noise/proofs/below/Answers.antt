@@ -1,6 +1,5 @@
 -- `noise::below` meets its contract.
 -- Assumes nothing.
-use borrow.Author.Rules.{rules}
 use native.Mathlib.Omega.{arith}
 use Rattle.noise.proofs.Counts.{carry}
 use Rattle.noise.proofs.below.Goals as goal

@@ -1,6 +1,5 @@
 -- `noise::sample` meets its contract: each arm's constant is the table of its distribution, and its length says how large a sample can be.
 -- Assumes nothing.
-use borrow.Author.Rules.{rules}
 use mathlib.Core.Path.{◌≡◌, sym, ap, ◌∙◌, subst}
 use Prim.Native.Nat.{ℕ, ◌≤◌, ◌<◌}
 use lib.IntN.{ℤ, nat_abs}
@@ -28,4 +27,3 @@ returns-in-Frodo976 c = picked c.args.r c.sample_word-in-Frodo976.result c.sampl
 
 pub returns-in-Frodo1344 : goal.returns-in-Frodo1344
 returns-in-Frodo1344 c = picked c.args.r c.sample_word-in-Frodo1344.result c.sample_word-in-Frodo1344.type_inv c.in-Frodo1344.is c.sample_word-in-Frodo1344.ensures
-

@@ -1,12 +1,9 @@
 -- `noise::sample_word` meets its contract: after i turns `size` counts the first i entries.
 -- Assumes nothing.
-use Prim.Native.Nat.{ℕ, ◌≤◌, ◌-◌, ◌+◌, ◌/◌, ◌%◌}
-use native.Mathlib.Omega.{arith}
-use mathlib.Core.Path.{◌≡◌, refl, ap, ◌∙◌}
+use Prim.Native.Nat.{◌≤◌, ◌-◌}
+use mathlib.Core.Path.{◌≡◌}
 use lib.ListN.{length, take}
-use mir.Facts.{to_z-of_z}
-use Rattle.noise.specs.Noise.{count_below, signed, sampled}
-use Rattle.noise.proofs.Counts.{count_more}
+use Rattle.noise.specs.Noise.{count_below}
 use Rattle.noise.proofs.sample_word.Given as goal
 
 abbrev pub invariant-loop-i : goal.invariant-loop-i

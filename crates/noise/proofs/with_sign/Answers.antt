@@ -1,6 +1,5 @@
 -- `noise::with_sign` meets its contract: a factor of 0 or 1 makes no product larger, and one of the two is 0.
 -- Assumes nothing.
-use borrow.Author.Rules.{rules}
 use native.Mathlib.Omega.{arith}
 use Prim.Native.Nat.{◌-◌, ◌*◌, ◌≤◌}
 use Rattle.noise.proofs.Counts.{factor_le}

@@ -1,12 +1,9 @@
 -- `opening::ct_select` meets its contract: after i turns the first i bytes are chosen.
 -- Assumes nothing.
-use Prim.Native.Nat.{◌-◌, ◌≤◌}
 use native.Mathlib.Omega.{arith}
-use mathlib.Core.Bool.{cond}
-use mathlib.Core.Path.{◌≡◌, refl}
+use mathlib.Core.Path.{refl}
 use lib.Dec.{eqb}
-use lib.ListN.{length, get_or}
-use Rattle.lists.proofs.Loops.{Upto, none, more}
+use Rattle.lists.proofs.Loops.{none, more}
 use Rattle.opening.proofs.Choices.{chosen}
 use Rattle.opening.proofs.ct_select.Goals as goal
 

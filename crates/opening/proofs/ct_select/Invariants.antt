@@ -1,13 +1,11 @@
 -- `opening::ct_select` meets its contract: after i turns the first i bytes are chosen.
 -- Assumes nothing.
-use Prim.Native.Nat.{◌-◌, ◌≤◌}
-use native.Mathlib.Omega.{arith}
+use Prim.Native.Nat.{◌≤◌}
 use mathlib.Core.Bool.{cond}
-use mathlib.Core.Path.{◌≡◌, refl}
+use mathlib.Core.Path.{◌≡◌}
 use lib.Dec.{eqb}
 use lib.ListN.{length, get_or}
-use Rattle.lists.proofs.Loops.{Upto, none, more}
-use Rattle.opening.proofs.Choices.{chosen}
+use Rattle.lists.proofs.Loops.{Upto}
 use Rattle.opening.proofs.ct_select.Given as goal
 
 abbrev pub invariant-loop-i : goal.invariant-loop-i

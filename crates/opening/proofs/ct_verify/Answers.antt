@@ -1,6 +1,5 @@
 -- `opening::ct_verify` meets its contract.
 -- Assumes nothing.
-use borrow.Author.Rules.{rules}
 use mathlib.Core.Path.{ap, ◌∙◌}
 use Rattle.opening.specs.Opening.{bit}
 use Rattle.opening.proofs.ct_verify.Goals as goal

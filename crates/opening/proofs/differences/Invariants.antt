@@ -1,15 +1,10 @@
 -- `opening::differences` meets its contract: after i turns nothing is gathered exactly where the first i words are equal.
 -- Assumes nothing.
-use Prim.Native.Nat.{◌-◌, ◌≤◌}
-use native.Mathlib.Omega.{arith}
-use mathlib.Core.Bool.{Bool, ◌&&◌}
-use mathlib.Core.Path.{◌≡◌, refl, sym, ap, ap₂, ◌∙◌}
+use Prim.Native.Nat.{◌≤◌}
+use mathlib.Core.Path.{◌≡◌}
 use lib.Dec.{eqb}
-use lib.ListN.{length, take, get_or}
-use lib.Seq.{take_all}
+use lib.ListN.{length, take}
 use Rattle.lists.specs.Lists.{equal}
-use Rattle.lists.proofs.Tables.{equal_refl}
-use Rattle.opening.proofs.Choices.{equal_next}
 use Rattle.opening.proofs.differences.Given as goal
 
 abbrev pub invariant-loop-i : goal.invariant-loop-i

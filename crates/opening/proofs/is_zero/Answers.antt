@@ -1,6 +1,5 @@
 -- `opening::is_zero` meets its contract.
 -- Assumes nothing.
-use borrow.Author.Rules.{rules}
 use native.Mathlib.Omega.{arith}
 use Rattle.opening.proofs.Choices.{carries}
 use Rattle.opening.proofs.is_zero.Goals as goal

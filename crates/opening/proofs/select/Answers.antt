@@ -1,6 +1,5 @@
 -- `opening::select` meets its contract.
 -- Assumes nothing.
-use borrow.Author.Rules.{rules}
 use native.Mathlib.Omega.{arith}
 use Rattle.opening.proofs.Choices.{selects}
 use Rattle.opening.proofs.select.Goals as goal

@@ -1,6 +1,5 @@
 -- `pkh::absorb_eight` meets its contract: the packed words stand in front of `bytes`, and the sponge takes them.
 -- Assumes nothing.
-use borrow.Author.Rules.{rules}
 use mathlib.Core.Path.{ap, ◌∙◌}
 use Rattle.shake.specs.Sponge.{absorb_bytes}
 use Rattle.pkh.proofs.Laws.{front_pack, front_back}

@@ -2,10 +2,10 @@
 -- Assumes nothing.
 use native.Mathlib.Omega.{arith}
 use mathlib.Core.Path.{sym, ap, ◌∙◌}
-use Prim.Native.Nat.{ℕ, ◌+◌, ◌-◌, ◌%◌, ◌≤◌}
+use Prim.Native.Nat.{ℕ, ◌+◌, ◌%◌}
 use lib.ListN.{get_or}
 use Rattle.lists.specs.Lists.{residues}
-use Rattle.lists.proofs.Loops.{Upto, none, more, past}
+use Rattle.lists.proofs.Loops.{none, more, past}
 use Rattle.algebra.specs.Matrix.{mat, ◌⊕◌, table}
 use Rattle.algebra.proofs.Tables.{map_table}
 use Rattle.algebra.proofs.Turns.{entries}
@@ -22,10 +22,10 @@ add_low-requires c = c.mask-q_mask.ensures.0
 
 pub loop-i-preserved : goal.loop-i-preserved
 loop-i-preserved c = let a = c.args in (
-      omega arith,
-      more c.loop-i.invariant.1 (omega arith) (c.add_low.ensures
-          ∙ ap (λ (z : ℕ). (z + get_or a.rhs.now c.loop-i.i 0) % (c.mask-q_mask.result + 1)) (past c.loop-i.invariant.1 c.loop-i.i (omega arith) (omega arith))),
-    )
+  omega arith,
+  more c.loop-i.invariant.1 (omega arith) (c.add_low.ensures
+      ∙ ap (λ (z : ℕ). (z + get_or a.rhs.now c.loop-i.i 0) % (c.mask-q_mask.result + 1)) (past c.loop-i.invariant.1 c.loop-i.i (omega arith) (omega arith))),
+)
 
 pub shape_of-out : goal.shape_of-out
 shape_of-out c = c.loop-i.invariant.1.len

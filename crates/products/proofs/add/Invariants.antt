@@ -1,14 +1,8 @@
 -- `products::add` meets its contract.
 -- Assumes nothing.
-use native.Mathlib.Omega.{arith}
-use mathlib.Core.Path.{sym, ap, ◌∙◌}
-use Prim.Native.Nat.{ℕ, ◌+◌, ◌-◌, ◌%◌, ◌≤◌}
+use Prim.Native.Nat.{◌+◌, ◌-◌, ◌%◌, ◌≤◌}
 use lib.ListN.{get_or}
-use Rattle.lists.specs.Lists.{residues}
-use Rattle.lists.proofs.Loops.{Upto, none, more, past}
-use Rattle.algebra.specs.Matrix.{mat, ◌⊕◌, table}
-use Rattle.algebra.proofs.Tables.{map_table}
-use Rattle.algebra.proofs.Turns.{entries}
+use Rattle.lists.proofs.Loops.{Upto}
 use Rattle.products.proofs.add.Given as goal
 
 abbrev pub invariant-loop-i : goal.invariant-loop-i

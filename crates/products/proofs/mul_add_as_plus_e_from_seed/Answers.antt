@@ -2,17 +2,12 @@
 -- Assumes nothing.
 use native.Mathlib.Omega.{arith}
 use native.Mathlib.Nat.{mul_comm}
-use mathlib.Core.Path.{◌≡◌, ap, ◌∙◌}
-use mathlib.Core.List.{List}
-use Prim.Native.Nat.{ℕ, ◌*◌, ◌-◌, ◌≤◌, ◌<◌}
+use mathlib.Core.Path.{ap, ◌∙◌}
+use Prim.Native.Nat.{ℕ, ◌*◌, ◌≤◌, ◌<◌}
 use lib.ListN.{length, take}
-use Rattle.algebra.specs.Matrix.{Matrix, mat, mat_t, mul, ◌⊕◌}
-use Rattle.algebra.proofs.Turns.{Top, top_none, top_all}
-use Rattle.sets.specs.declared.Params.{Params}
-use Rattle.rows.specs.Row.{mat_a}
+use Rattle.algebra.proofs.Turns.{top_none, top_all}
 use Rattle.products.proofs.FromSeed.{as_turn, as_length}
 use Rattle.products.proofs.mul_add_as_plus_e_from_seed.Goals as goal
-use Rattle.products.proofs.mul_add_as_plus_e_from_seed.Invariants.{result}
 
 pub overflow_mul-from : goal.overflow_mul-from
 overflow_mul-from c = omega (arith, c.requires.0.n_high)

@@ -1,16 +1,13 @@
 -- `products::mul_add_as_plus_e_from_seed` meets its contract: after i turns the first i rows of the result stand at the front of work.
 -- Assumes nothing.
-use native.Mathlib.Omega.{arith}
-use native.Mathlib.Nat.{mul_comm}
-use mathlib.Core.Path.{◌≡◌, ap, ◌∙◌}
+use mathlib.Core.Path.{◌≡◌}
 use mathlib.Core.List.{List}
-use Prim.Native.Nat.{ℕ, ◌*◌, ◌-◌, ◌≤◌, ◌<◌}
-use lib.ListN.{length, take}
+use Prim.Native.Nat.{ℕ, ◌*◌, ◌-◌, ◌≤◌}
+use lib.ListN.{length}
 use Rattle.algebra.specs.Matrix.{Matrix, mat, mat_t, mul, ◌⊕◌}
-use Rattle.algebra.proofs.Turns.{Top, top_none, top_all}
+use Rattle.algebra.proofs.Turns.{Top}
 use Rattle.sets.specs.declared.Params.{Params}
 use Rattle.rows.specs.Row.{mat_a}
-use Rattle.products.proofs.FromSeed.{as_turn, as_length}
 use Rattle.products.proofs.mul_add_as_plus_e_from_seed.Given as goal
 
 abbrev pub result : (p : Params) (seedA s e : List ℕ) → Matrix

@@ -2,17 +2,13 @@
 -- Assumes nothing.
 use native.Mathlib.Omega.{arith}
 use mathlib.Core.Path.{subst, ◌≡◌, refl, ap, ◌∙◌}
-use mathlib.Core.List.{List}
-use Prim.Native.Nat.{ℕ, ◌*◌, ◌-◌, ◌≤◌}
+use Prim.Native.Nat.{◌*◌, ◌-◌, ◌≤◌}
 use lib.ListN.{length, take, drop, length-drop}
 use lib.Seq.{take_all}
 use Rattle.lists.specs.Lists.{Below}
-use Rattle.lists.specs.Lists.{residues}
-use Rattle.lists.proofs.Tables.{below_drop}
-use Rattle.algebra.specs.Matrix.{mat, mul, ◌⊕◌, table}
+use Rattle.algebra.specs.Matrix.{mat}
 use Rattle.algebra.proofs.Tables.{length_kept}
 use Rattle.algebra.proofs.Turns.{product_start}
-use Rattle.sets.specs.declared.Params.{Params}
 use Rattle.rows.specs.Row.{mat_a}
 use Rattle.products.proofs.FromSeed.{placed_length, placed_front, sa_turn}
 use Rattle.products.proofs.mul_add_sa_plus_e_from_seed.Goals as goal

@@ -1,19 +1,13 @@
 -- `products::mul_add_sa_plus_e_from_seed` meets its contract: after k turns k rows of A are taken in, and S' stands.
 -- Assumes nothing.
-use native.Mathlib.Omega.{arith}
-use mathlib.Core.Path.{◌≡◌, refl, ap, ◌∙◌}
+use mathlib.Core.Path.{◌≡◌}
 use mathlib.Core.List.{List}
 use Prim.Native.Nat.{ℕ, ◌*◌, ◌-◌, ◌≤◌}
-use lib.ListN.{length, take, drop, length-drop}
-use lib.Seq.{take_all}
+use lib.ListN.{length, take, drop}
 use Rattle.lists.specs.Lists.{residues}
-use Rattle.lists.proofs.Tables.{below_drop}
 use Rattle.algebra.specs.Matrix.{mat, mul, ◌⊕◌, table}
-use Rattle.algebra.proofs.Tables.{length_kept}
-use Rattle.algebra.proofs.Turns.{product_start}
 use Rattle.sets.specs.declared.Params.{Params}
 use Rattle.rows.specs.Row.{mat_a}
-use Rattle.products.proofs.FromSeed.{placed_length, placed_front, sa_turn}
 use Rattle.products.proofs.mul_add_sa_plus_e_from_seed.Given as goal
 
 -- the result with k rows of A taken in, from what noise held

@@ -2,13 +2,12 @@
 -- Assumes nothing.
 use native.Mathlib.Omega.{arith}
 use mathlib.Core.Path.{◌≡◌, ap, ◌∙◌}
-use mathlib.Core.List.{List}
-use Prim.Native.Nat.{ℕ, ◌+◌, ◌*◌, ◌-◌, ◌≤◌}
+use Prim.Native.Nat.{ℕ, ◌+◌, ◌*◌, ◌≤◌}
 use lib.ListN.{length}
 use Rattle.lists.specs.Lists.{tab, residues}
-use Rattle.algebra.specs.Matrix.{Matrix, mat, mul, ◌⊕◌, table}
+use Rattle.algebra.specs.Matrix.{mat, table}
 use Rattle.algebra.proofs.Products.{within}
-use Rattle.algebra.proofs.Turns.{Rows, rows_none, rows_more, rows_all, row_of, part, part_at}
+use Rattle.algebra.proofs.Turns.{rows_none, rows_more, rows_all, row_of, part, part_at}
 use Rattle.products.proofs.Laws.{masked}
 use Rattle.products.proofs.mul_add_sb_plus_e.Goals as goal
 use Rattle.products.proofs.mul_add_sb_plus_e.Goals.{In-loop-i}

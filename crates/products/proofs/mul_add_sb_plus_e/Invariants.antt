@@ -1,15 +1,9 @@
 -- `products::mul_add_sb_plus_e` meets its contract: after i turns the first i rows of the result stand.
 -- Assumes nothing.
-use native.Mathlib.Omega.{arith}
-use mathlib.Core.Path.{◌≡◌, ap, ◌∙◌}
 use mathlib.Core.List.{List}
-use Prim.Native.Nat.{ℕ, ◌+◌, ◌*◌, ◌-◌, ◌≤◌}
-use lib.ListN.{length}
-use Rattle.lists.specs.Lists.{tab, residues}
-use Rattle.algebra.specs.Matrix.{Matrix, mat, mul, ◌⊕◌, table}
-use Rattle.algebra.proofs.Products.{within}
-use Rattle.algebra.proofs.Turns.{Rows, rows_none, rows_more, rows_all, row_of, part, part_at}
-use Rattle.products.proofs.Laws.{masked}
+use Prim.Native.Nat.{ℕ, ◌+◌, ◌-◌, ◌≤◌}
+use Rattle.algebra.specs.Matrix.{Matrix, mat, mul, ◌⊕◌}
+use Rattle.algebra.proofs.Turns.{Rows}
 use Rattle.products.proofs.mul_add_sb_plus_e.Given as goal
 
 abbrev pub result : (n : ℕ) (s b e : List ℕ) → Matrix

@@ -2,15 +2,14 @@
 -- Assumes nothing.
 use native.Mathlib.Omega.{arith}
 use mathlib.Core.Path.{◌≡◌, ap, ◌∙◌}
-use mathlib.Core.List.{List}
-use Prim.Native.Nat.{ℕ, ◌+◌, ◌*◌, ◌-◌, ◌%◌, ◌≤◌}
+use Prim.Native.Nat.{ℕ, ◌+◌, ◌*◌, ◌%◌, ◌≤◌}
 use native.Mathlib.Nat.{add-zero}
 use lib.ListN.{length, replicate, get_or-replicate}
 use Rattle.lists.specs.Lists.{tab, residues}
-use Rattle.algebra.specs.Matrix.{Matrix, mat, mat_t, mul, ◌⊕◌, table}
+use Rattle.algebra.specs.Matrix.{mat, mat_t, mul, table}
 use Rattle.algebra.proofs.Products.{within}
 use Rattle.algebra.proofs.Tables.{words_cong}
-use Rattle.algebra.proofs.Turns.{Rows, rows_none, rows_more, rows_all, row_of, part, part_at}
+use Rattle.algebra.proofs.Turns.{rows_none, rows_more, rows_all, row_of, part, part_at}
 use Rattle.products.proofs.Laws.{masked}
 use Rattle.products.proofs.mul_bs.Goals as goal
 use Rattle.products.proofs.mul_bs.Goals.{In-loop-i}

@@ -2,9 +2,9 @@
 -- Assumes nothing.
 use native.Mathlib.Omega.{arith}
 use mathlib.Core.Path.{ap, ◌∙◌}
-use Prim.Native.Nat.{ℕ, ◌+◌, ◌-◌, ◌≤◌}
+use Prim.Native.Nat.{ℕ, ◌+◌}
 use lib.ListN.{get_or}
-use Rattle.lists.proofs.Loops.{Upto, none, more, past}
+use Rattle.lists.proofs.Loops.{none, more, past}
 use Rattle.algebra.specs.Congruence.{minus}
 use Rattle.algebra.specs.Matrix.{mat, table}
 use Rattle.algebra.proofs.Turns.{entries}
@@ -21,10 +21,10 @@ sub_low-requires c = c.mask-q_mask.ensures.0
 
 pub loop-i-preserved : goal.loop-i-preserved
 loop-i-preserved c = let a = c.args in (
-      omega arith,
-      more c.loop-i.invariant.1 (omega arith) (c.sub_low.ensures
-          ∙ ap (minus (c.mask-q_mask.result + 1) (get_or a.lhs.now c.loop-i.i 0)) (past c.loop-i.invariant.1 c.loop-i.i (omega arith) (omega arith))),
-    )
+  omega arith,
+  more c.loop-i.invariant.1 (omega arith) (c.sub_low.ensures
+      ∙ ap (minus (c.mask-q_mask.result + 1) (get_or a.lhs.now c.loop-i.i 0)) (past c.loop-i.invariant.1 c.loop-i.i (omega arith) (omega arith))),
+)
 
 pub shape_of-out : goal.shape_of-out
 shape_of-out c = c.loop-i.invariant.1.len

@@ -1,13 +1,9 @@
 -- `products::sub` meets its contract.
 -- Assumes nothing.
-use native.Mathlib.Omega.{arith}
-use mathlib.Core.Path.{ap, ◌∙◌}
-use Prim.Native.Nat.{ℕ, ◌+◌, ◌-◌, ◌≤◌}
+use Prim.Native.Nat.{◌+◌, ◌-◌, ◌≤◌}
 use lib.ListN.{get_or}
-use Rattle.lists.proofs.Loops.{Upto, none, more, past}
+use Rattle.lists.proofs.Loops.{Upto}
 use Rattle.algebra.specs.Congruence.{minus}
-use Rattle.algebra.specs.Matrix.{mat, table}
-use Rattle.algebra.proofs.Turns.{entries}
 use Rattle.products.proofs.sub.Given as goal
 
 abbrev pub invariant-loop-i : goal.invariant-loop-i

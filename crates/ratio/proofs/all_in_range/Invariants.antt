@@ -1,13 +1,10 @@
 -- `ratio::all_in_range` meets its contract: after i turns `kept` says whether the first i words are in range.
 -- Assumes nothing.
-use mathlib.Core.Path.{◌≡◌, refl, sym, ap, ap₂, ◌∙◌}
-use mathlib.Core.Bool.{Bool, ◌&&◌}
-use Prim.Native.Nat.{ℕ, ◌-◌, ◌≤◌}
-use native.Mathlib.Omega.{arith}
+use mathlib.Core.Path.{◌≡◌}
+use Prim.Native.Nat.{◌≤◌}
 use lib.ListN.{length, get_or}
 use Rattle.algebra.specs.Whole.{centred}
-use Rattle.scheme.specs.Margin.{in_range, every, kept_by}
-use Rattle.scheme.proofs.Margin.{every_next}
+use Rattle.scheme.specs.Margin.{in_range, every}
 use Rattle.ratio.proofs.all_in_range.Given as goal
 
 abbrev pub invariant-loop-i : goal.invariant-loop-i

@@ -1,6 +1,5 @@
 -- `ratio::in_range` meets its contract: one comparison with q/2.
 -- Assumes nothing.
-use borrow.Author.Rules.{rules}
 use mathlib.Core.Path.{◌≡◌, sym, ap, ◌∙◌}
 use Prim.Native.Nat.{ℕ, ◌*◌, ◌-◌, ◌/◌}
 use native.Mathlib.Omega.{arith}

@@ -1,7 +1,7 @@
 -- `ratio::largest_size` meets its contract: after i turns `size` is the largest of the first i words' sizes.
 -- Assumes nothing.
 use mathlib.Core.Path.{◌≡◌, refl, sym, ap, ap₂, ◌∙◌}
-use Prim.Native.Nat.{ℕ, ◌-◌, ◌≤◌, max}
+use Prim.Native.Nat.{ℕ, max}
 use native.Mathlib.Omega.{arith}
 use lib.ListN.{length, get_or}
 use Rattle.scheme.specs.Margin.{largest, size_of, largest_size}

@@ -1,11 +1,9 @@
 -- `ratio::largest_size` meets its contract: after i turns `size` is the largest of the first i words' sizes.
 -- Assumes nothing.
-use mathlib.Core.Path.{◌≡◌, refl, sym, ap, ap₂, ◌∙◌}
-use Prim.Native.Nat.{ℕ, ◌-◌, ◌≤◌, max}
-use native.Mathlib.Omega.{arith}
+use mathlib.Core.Path.{◌≡◌}
+use Prim.Native.Nat.{◌≤◌}
 use lib.ListN.{length, get_or}
-use Rattle.scheme.specs.Margin.{largest, size_of, largest_size}
-use Rattle.scheme.proofs.Margin.{largest_next}
+use Rattle.scheme.specs.Margin.{largest, size_of}
 use Rattle.ratio.proofs.largest_size.Given as goal
 
 abbrev pub invariant-loop-i : goal.invariant-loop-i

@@ -1,6 +1,5 @@
 -- `ratio::margin_of` meets its contract: the measure of the largest size, with the verdict on all words.
 -- Assumes nothing.
-use borrow.Author.Rules.{rules}
 use mathlib.Core.Path.{◌≡◌, subst}
 use mathlib.Core.Bool.{Bool}
 use Prim.Native.Nat.{ℕ}

@@ -1,6 +1,5 @@
 -- `ratio::measured` meets its contract: the ratio is the one float, and exact.
 -- Assumes nothing.
-use borrow.Author.Rules.{rules}
 use Rattle.ratio.proofs.measured.Goals as goal
 
 pub returns : goal.returns

@@ -1,6 +1,5 @@
 -- `ratio::ratio` meets its contract: both numbers are held whole, and the division rounds nothing.
 -- Assumes nothing.
-use borrow.Author.Rules.{rules}
 use Rattle.ratio.proofs.Quotient.{divided}
 use Rattle.ratio.proofs.ratio.Goals as goal
 

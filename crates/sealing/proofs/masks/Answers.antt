@@ -1,6 +1,5 @@
 -- `sealing::masks` meets its contract: the noise is drawn, and its first 16n words are lent to the product.
 -- Assumes nothing.
-use borrow.Author.Rules.{rules}
 use Rattle.sealing.proofs.MatrixB.{masks_law}
 use Rattle.sealing.proofs.masks.Goals as goal
 

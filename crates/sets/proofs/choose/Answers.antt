@@ -1,6 +1,5 @@
 -- `sets::choose` meets its contract: the ranges of the match are the test `known`.
 -- Assumes nothing.
-use borrow.Author.Rules.{rules}
 use borrow.Author.Tests.{le-leb, lt-leb}
 use native.Mathlib.Omega.{arith}
 use Rattle.sets.specs.Sets.{chosen}

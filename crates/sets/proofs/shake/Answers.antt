@@ -1,5 +1,5 @@
 -- `sets::shake` meets its contract: the set's number picks the column of the table.
-use Rattle.std.proofs.Common.{eq-eqb, ◌≢◌, ℕ, arith}
+use Rattle.std.proofs.Common.{eq-eqb, ◌≢◌, arith}
 use borrow.Author.Tests.{ne_eqb}
 use Rattle.sets.specs.Sets.{params_of}
 use Rattle.sets.proofs.shake.Goals as goal

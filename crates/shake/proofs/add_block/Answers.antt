@@ -1,7 +1,5 @@
 -- `add_block` adds whole lanes, and then what is left of the bytes.
 -- Assumes nothing.
-use native.Mathlib.Omega.{arith}
-use borrow.Author.Rules.{rules}
 use Rattle.shake.proofs.Add.{add_both}
 use Rattle.shake.proofs.add_block.Goals as goal
 

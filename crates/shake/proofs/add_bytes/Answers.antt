@@ -1,12 +1,11 @@
 -- `add_bytes` adds byte after byte.
 -- Assumes nothing.
-use mathlib.Core.Path.{◌≡◌, ap}
-use Prim.Native.Nat.{◌+◌, ◌-◌, ◌/◌, ◌≤◌}
+use mathlib.Core.Path.{ap}
+use Prim.Native.Nat.{◌+◌, ◌/◌}
 use native.Mathlib.Omega.{arith}
-use borrow.Author.Rules.{rules}
-use lib.ListN.{length, set}
+use lib.ListN.{set}
 use Rattle.shake.specs.Sponge.{xor_byte}
-use Rattle.shake.proofs.Add.{Added, added_none, added_byte, added_all}
+use Rattle.shake.proofs.Add.{added_none, added_byte, added_all}
 use Rattle.shake.proofs.add_bytes.Goals as goal
 
 pub loop-i-init : goal.loop-i-init

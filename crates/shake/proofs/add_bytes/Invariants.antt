@@ -1,12 +1,9 @@
 -- `add_bytes` adds byte after byte.
 -- Assumes nothing.
-use mathlib.Core.Path.{◌≡◌, ap}
-use Prim.Native.Nat.{◌+◌, ◌-◌, ◌/◌, ◌≤◌}
-use native.Mathlib.Omega.{arith}
-use borrow.Author.Rules.{rules}
-use lib.ListN.{length, set}
-use Rattle.shake.specs.Sponge.{xor_byte}
-use Rattle.shake.proofs.Add.{Added, added_none, added_byte, added_all}
+use mathlib.Core.Path.{◌≡◌}
+use Prim.Native.Nat.{◌≤◌}
+use lib.ListN.{length}
+use Rattle.shake.proofs.Add.{Added}
 use Rattle.shake.proofs.add_bytes.Given as goal
 
 abbrev pub invariant-loop-i : goal.invariant-loop-i

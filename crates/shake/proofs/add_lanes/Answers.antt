@@ -1,12 +1,12 @@
 -- `add_lanes` adds a lane of eight bytes a turn.
 -- Assumes nothing.
-use mathlib.Core.Path.{◌≡◌, ap}
-use Prim.Native.Nat.{ℕ, ◌+◌, ◌*◌, ◌-◌, ◌/◌, ◌≤◌}
+use mathlib.Core.Path.{ap}
+use Prim.Native.Nat.{ℕ, ◌+◌, ◌*◌}
 use native.Mathlib.Omega.{arith}
 use lib.Bits.{bit_xor}
-use lib.ListN.{length, get_or, set}
+use lib.ListN.{get_or, set}
 use Rattle.lists.proofs.Spans.{length_part}
-use Rattle.shake.proofs.Add.{Added, added_none, added_lane, added_all}
+use Rattle.shake.proofs.Add.{added_none, added_lane, added_all}
 use Rattle.shake.proofs.add_lanes.Goals as goal
 
 pub loop-t-init : goal.loop-t-init

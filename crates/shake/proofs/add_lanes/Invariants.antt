@@ -1,12 +1,9 @@
 -- `add_lanes` adds a lane of eight bytes a turn.
 -- Assumes nothing.
-use mathlib.Core.Path.{◌≡◌, ap}
-use Prim.Native.Nat.{ℕ, ◌+◌, ◌*◌, ◌-◌, ◌/◌, ◌≤◌}
-use native.Mathlib.Omega.{arith}
-use lib.Bits.{bit_xor}
-use lib.ListN.{length, get_or, set}
-use Rattle.lists.proofs.Spans.{length_part}
-use Rattle.shake.proofs.Add.{Added, added_none, added_lane, added_all}
+use mathlib.Core.Path.{◌≡◌}
+use Prim.Native.Nat.{◌*◌, ◌-◌, ◌/◌, ◌≤◌}
+use lib.ListN.{length}
+use Rattle.shake.proofs.Add.{Added}
 use Rattle.shake.proofs.add_lanes.Given as goal
 
 abbrev pub invariant-loop-t : goal.invariant-loop-t

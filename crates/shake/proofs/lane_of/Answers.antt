@@ -2,7 +2,6 @@
 -- Assumes nothing.
 use mathlib.Core.Path.{ap, ◌∙◌}
 use native.Mathlib.Omega.{arith}
-use borrow.Author.Rules.{rules}
 use Rattle.lists.proofs.Tables.{known}
 use Rattle.bits.specs.Digits.{number}
 use Rattle.shake.proofs.Lane.{two_halves}

@@ -3,7 +3,6 @@
 use mathlib.Core.Path.{sym, ap, ◌∙◌}
 use mathlib.Core.List.{List}
 use Prim.Native.Nat.{ℕ}
-use borrow.Author.Rules.{rules}
 use Rattle.shake.specs.Sponge.{made}
 use Rattle.shake.proofs.Turn.{turn_full, turn_part}
 use Rattle.shake.proofs.next_block.Goals as goal

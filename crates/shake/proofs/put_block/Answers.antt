@@ -1,7 +1,5 @@
 -- `put_block` writes whole lanes, and then what is left of the words.
 -- Assumes nothing.
-use native.Mathlib.Omega.{arith}
-use borrow.Author.Rules.{rules}
 use Rattle.shake.proofs.Put.{put_both}
 use Rattle.shake.proofs.put_block.Goals as goal
 

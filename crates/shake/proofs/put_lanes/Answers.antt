@@ -1,11 +1,10 @@
 -- `put_lanes` writes four words a turn.
 -- Assumes nothing.
 use mathlib.Core.Path.{◌≡◌, ap, ◌∙◌}
-use Prim.Native.Nat.{ℕ, ◌+◌, ◌*◌, ◌-◌, ◌/◌, ◌≤◌}
+use Prim.Native.Nat.{ℕ, ◌+◌, ◌*◌, ◌-◌}
 use native.Mathlib.Omega.{arith}
-use lib.ListN.{length}
 use Rattle.lists.specs.Lists.{tab}
-use Rattle.lists.proofs.Loops.{Upto, none, moved, all}
+use Rattle.lists.proofs.Loops.{none, moved, all}
 use Rattle.lists.proofs.Spans.{length_part, upto_part}
 use Rattle.lists.proofs.Tables.{tab_cong}
 use Rattle.shake.specs.Sponge.{word_at}

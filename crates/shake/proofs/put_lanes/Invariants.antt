@@ -1,15 +1,10 @@
 -- `put_lanes` writes four words a turn.
 -- Assumes nothing.
-use mathlib.Core.Path.{◌≡◌, ap, ◌∙◌}
-use Prim.Native.Nat.{ℕ, ◌+◌, ◌*◌, ◌-◌, ◌/◌, ◌≤◌}
-use native.Mathlib.Omega.{arith}
+use mathlib.Core.Path.{◌≡◌}
+use Prim.Native.Nat.{◌+◌, ◌*◌, ◌-◌, ◌/◌, ◌≤◌}
 use lib.ListN.{length}
-use Rattle.lists.specs.Lists.{tab}
-use Rattle.lists.proofs.Loops.{Upto, none, moved, all}
-use Rattle.lists.proofs.Spans.{length_part, upto_part}
-use Rattle.lists.proofs.Tables.{tab_cong}
+use Rattle.lists.proofs.Loops.{Upto}
 use Rattle.shake.specs.Sponge.{word_at}
-use Rattle.shake.proofs.Put.{lane_word}
 use Rattle.shake.proofs.put_lanes.Given as goal
 
 abbrev pub invariant-loop-t : goal.invariant-loop-t

@@ -1,12 +1,7 @@
 -- `put_words` writes word after word.
 -- Assumes nothing.
-use mathlib.Core.Path.{◌≡◌}
-use Prim.Native.Nat.{◌+◌, ◌*◌, ◌-◌, ◌≤◌}
 use native.Mathlib.Omega.{arith}
-use borrow.Author.Rules.{rules}
-use lib.ListN.{length}
-use Rattle.lists.proofs.Loops.{Upto, none, more, all}
-use Rattle.shake.specs.Sponge.{word_at}
+use Rattle.lists.proofs.Loops.{none, more, all}
 use Rattle.shake.proofs.put_words.Goals as goal
 
 pub loop-i-init : goal.loop-i-init

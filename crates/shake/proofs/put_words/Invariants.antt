@@ -1,11 +1,9 @@
 -- `put_words` writes word after word.
 -- Assumes nothing.
 use mathlib.Core.Path.{◌≡◌}
-use Prim.Native.Nat.{◌+◌, ◌*◌, ◌-◌, ◌≤◌}
-use native.Mathlib.Omega.{arith}
-use borrow.Author.Rules.{rules}
+use Prim.Native.Nat.{◌+◌, ◌*◌, ◌≤◌}
 use lib.ListN.{length}
-use Rattle.lists.proofs.Loops.{Upto, none, more, all}
+use Rattle.lists.proofs.Loops.{Upto}
 use Rattle.shake.specs.Sponge.{word_at}
 use Rattle.shake.proofs.put_words.Given as goal
 

@@ -2,7 +2,6 @@
 -- Assumes nothing.
 use mathlib.Core.Path.{◌∙◌}
 use mathlib.Core.List.{[]}
-use borrow.Author.Rules.{rules}
 use Rattle.shake.proofs.Uses.{Absorbed, none, more, ready, squeezing, shakes}
 use Rattle.shake.proofs.shake.Goals as goal
 use Rattle.shake.proofs.shake.Goals.{After-absorb-p, After-new-p}

@@ -1,6 +1,5 @@
 -- `sponge::shake` meets its contract: a second slice that is empty adds nothing. Assumes nothing.
 use mathlib.Core.Path.{◌∙◌}
-use borrow.Author.Rules.{rules}
 use Rattle.sponge.proofs.Laws.{nothing_more}
 use Rattle.sponge.proofs.shake.Goals as goal
 

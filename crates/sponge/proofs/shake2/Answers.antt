@@ -2,7 +2,6 @@
 use mathlib.Core.Path.{◌∙◌, ap}
 use mathlib.Core.List.{List, ◌++◌, append-nil}
 use Prim.Native.Nat.{ℕ}
-use borrow.Author.Rules.{rules}
 use lib.ListN.{length}
 use Rattle.shake.specs.Shake.{shake}
 use Rattle.sponge.proofs.shake2.Goals as goal

@@ -1,6 +1,5 @@
 -- `sponge::shake3` meets its contract: what the sponge gives that has taken the three slices is SHAKE of them. Assumes nothing.
 use mathlib.Core.Path.{◌∙◌}
-use borrow.Author.Rules.{rules}
 use Rattle.sponge.proofs.Laws.{three}
 use Rattle.sponge.proofs.shake3.Goals as goal
 

@@ -1,6 +1,5 @@
 -- `sponge::shake_words` meets its contract: what the sponge gives that has taken both slices is SHAKE of them, in words. Assumes nothing.
 use mathlib.Core.Path.{◌∙◌}
-use borrow.Author.Rules.{rules}
 use Rattle.sponge.proofs.Laws.{two_words}
 use Rattle.sponge.proofs.shake_words.Goals as goal
 

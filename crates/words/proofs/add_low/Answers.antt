@@ -1,6 +1,5 @@
 -- `words::add_low` meets its contract.
 -- Assumes nothing.
-use borrow.Author.Rules.{rules}
 use Prim.Native.Nat.{ℕ, ◌+◌, ◌%◌}
 use mathlib.Core.Path.{ap, ◌∙◌}
 use Rattle.words.proofs.Masks.{word_low}

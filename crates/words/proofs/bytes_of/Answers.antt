@@ -1,11 +1,10 @@
 -- `words::bytes_of` meets its contract: after i turns the first 2i bytes are those of the first i words.
 -- Assumes nothing.
-use Prim.Native.Nat.{◌-◌, ◌≤◌}
 use native.Mathlib.Omega.{arith}
-use mathlib.Core.Path.{◌≡◌, refl}
-use lib.ListN.{length, length-set}
+use mathlib.Core.Path.{refl}
+use lib.ListN.{length-set}
 use Rattle.lists.proofs.Tables.{cons}
-use Rattle.lists.proofs.Parts.{Parts, parts_none, turned}
+use Rattle.lists.proofs.Parts.{parts_none, turned}
 use Rattle.lists.proofs.Pairs.{turn_pair}
 use Rattle.bits.specs.Little.{bytes_of}
 use Rattle.bits.proofs.Little.{bytes_join}

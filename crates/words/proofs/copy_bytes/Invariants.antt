@@ -1,10 +1,9 @@
 -- `words::copy_bytes` meets its contract: after i turns the first i bytes are copied.
 -- Assumes nothing.
-use Prim.Native.Nat.{◌-◌, ◌≤◌}
-use native.Mathlib.Omega.{arith}
-use mathlib.Core.Path.{◌≡◌, refl}
+use Prim.Native.Nat.{◌≤◌}
+use mathlib.Core.Path.{◌≡◌}
 use lib.ListN.{length, get_or}
-use Rattle.lists.proofs.Loops.{Upto, none, more, copied_all}
+use Rattle.lists.proofs.Loops.{Upto}
 use Rattle.words.proofs.copy_bytes.Given as goal
 
 abbrev pub invariant-loop-i : goal.invariant-loop-i

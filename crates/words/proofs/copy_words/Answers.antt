@@ -1,10 +1,8 @@
 -- `words::copy_words` meets its contract: after i turns the first i words are copied.
 -- Assumes nothing.
-use Prim.Native.Nat.{◌-◌, ◌≤◌}
 use native.Mathlib.Omega.{arith}
-use mathlib.Core.Path.{◌≡◌, refl}
-use lib.ListN.{length, get_or}
-use Rattle.lists.proofs.Loops.{Upto, none, more, copied_all}
+use mathlib.Core.Path.{refl}
+use Rattle.lists.proofs.Loops.{none, more, copied_all}
 use Rattle.words.proofs.copy_words.Goals as goal
 
 pub loop-i-init : goal.loop-i-init

@@ -1,6 +1,5 @@
 -- `words::mac` meets its contract: the product of two words and a word are below 2^32.
 -- Assumes nothing.
-use borrow.Author.Rules.{rules}
 use native.Mathlib.Omega.{arith}
 use Rattle.algebra.proofs.Products.{product_le}
 use Rattle.words.proofs.mac.Goals as goal

@@ -1,10 +1,9 @@
 -- `words::mask_words` meets its contract: after i turns the first i words are taken mod q.
 -- Assumes nothing.
-use Prim.Native.Nat.{ℕ, ◌+◌, ◌-◌, ◌%◌, ◌≤◌}
+use Prim.Native.Nat.{ℕ, ◌+◌, ◌%◌}
 use native.Mathlib.Omega.{arith}
-use mathlib.Core.Path.{◌≡◌, refl, ap, ◌∙◌}
-use lib.ListN.{length, get_or}
-use Rattle.lists.proofs.Loops.{Upto, none, more, past, mapped_all}
+use mathlib.Core.Path.{refl, ap, ◌∙◌}
+use Rattle.lists.proofs.Loops.{none, more, past, mapped_all}
 use Rattle.words.proofs.mask_words.Goals as goal
 
 pub loop-i-init : goal.loop-i-init

@@ -1,10 +1,9 @@
 -- `words::mask_words` meets its contract: after i turns the first i words are taken mod q.
 -- Assumes nothing.
-use Prim.Native.Nat.{ℕ, ◌+◌, ◌-◌, ◌%◌, ◌≤◌}
-use native.Mathlib.Omega.{arith}
-use mathlib.Core.Path.{◌≡◌, refl, ap, ◌∙◌}
+use Prim.Native.Nat.{◌+◌, ◌%◌, ◌≤◌}
+use mathlib.Core.Path.{◌≡◌}
 use lib.ListN.{length, get_or}
-use Rattle.lists.proofs.Loops.{Upto, none, more, past, mapped_all}
+use Rattle.lists.proofs.Loops.{Upto}
 use Rattle.words.proofs.mask_words.Given as goal
 
 abbrev pub invariant-loop-i : goal.invariant-loop-i

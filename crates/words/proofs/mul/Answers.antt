@@ -1,6 +1,5 @@
 -- `words::mul` meets its contract: the product of two words is below 2^32.
 -- Assumes nothing.
-use borrow.Author.Rules.{rules}
 use native.Mathlib.Omega.{arith}
 use Rattle.algebra.proofs.Products.{product_le}
 use Rattle.words.proofs.mul.Goals as goal

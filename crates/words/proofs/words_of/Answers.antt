@@ -1,11 +1,9 @@
 -- `words::words_of` meets its contract: after i turns the first i words are those of the first 2i bytes.
 -- Assumes nothing.
-use Prim.Native.Nat.{◌-◌, ◌≤◌}
 use native.Mathlib.Omega.{arith}
-use mathlib.Core.Path.{◌≡◌, refl}
-use lib.ListN.{length}
+use mathlib.Core.Path.{refl}
 use Rattle.lists.proofs.Tables.{cons}
-use Rattle.lists.proofs.Parts.{Parts, parts_none, turned}
+use Rattle.lists.proofs.Parts.{parts_none, turned}
 use Rattle.lists.proofs.Pairs.{turn_single}
 use Rattle.bits.specs.Little.{words_of}
 use Rattle.bits.proofs.Little.{words_join}

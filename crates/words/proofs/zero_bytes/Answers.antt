@@ -1,11 +1,10 @@
 -- `words::zero_bytes` meets its contract: after i turns the first i bytes are 0.
 -- Assumes nothing.
-use Prim.Native.Nat.{◌-◌, ◌≤◌}
 use native.Mathlib.Omega.{arith}
-use mathlib.Core.Path.{◌≡◌, refl, ◌∙◌}
+use mathlib.Core.Path.{refl, ◌∙◌}
 use lib.ListN.{length}
 use Rattle.lists.proofs.Tables.{replicate_tab}
-use Rattle.lists.proofs.Loops.{Upto, none, more, all}
+use Rattle.lists.proofs.Loops.{none, more, all}
 use Rattle.words.proofs.zero_bytes.Goals as goal
 
 pub loop-i-init : goal.loop-i-init

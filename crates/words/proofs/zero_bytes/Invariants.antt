@@ -1,11 +1,9 @@
 -- `words::zero_bytes` meets its contract: after i turns the first i bytes are 0.
 -- Assumes nothing.
-use Prim.Native.Nat.{◌-◌, ◌≤◌}
-use native.Mathlib.Omega.{arith}
-use mathlib.Core.Path.{◌≡◌, refl, ◌∙◌}
+use Prim.Native.Nat.{◌≤◌}
+use mathlib.Core.Path.{◌≡◌}
 use lib.ListN.{length}
-use Rattle.lists.proofs.Tables.{replicate_tab}
-use Rattle.lists.proofs.Loops.{Upto, none, more, all}
+use Rattle.lists.proofs.Loops.{Upto}
 use Rattle.words.proofs.zero_bytes.Given as goal
 
 abbrev pub invariant-loop-i : goal.invariant-loop-i

@@ -1,9 +1,8 @@
 -- `words::zero_words` meets its contract: after i turns the first i words are 0.
 -- Assumes nothing.
-use Prim.Native.Nat.{◌-◌, ◌≤◌}
 use native.Mathlib.Omega.{arith}
 use mathlib.Core.Path.{refl}
-use Rattle.lists.proofs.Loops.{Upto, none, more, zeroed}
+use Rattle.lists.proofs.Loops.{none, more, zeroed}
 use Rattle.words.proofs.zero_words.Goals as goal
 
 pub loop-i-init : goal.loop-i-init

@@ -1,9 +1,7 @@
 -- `words::zero_words` meets its contract: after i turns the first i words are 0.
 -- Assumes nothing.
 use Prim.Native.Nat.{◌-◌, ◌≤◌}
-use native.Mathlib.Omega.{arith}
-use mathlib.Core.Path.{refl}
-use Rattle.lists.proofs.Loops.{Upto, none, more, zeroed}
+use Rattle.lists.proofs.Loops.{Upto}
 use Rattle.words.proofs.zero_words.Given as goal
 
 abbrev pub invariant-loop-i : goal.invariant-loop-i

@@ -1,12 +1,9 @@
 -- `absorb` adds to the block what it has room for, a turn: the invariant is `Took`.
 -- Assumes nothing.
-use mathlib.Core.Path.{◌≡◌}
-use Prim.Native.Nat.{◌+◌, ◌-◌, ◌≤◌, ◌<◌}
+use Prim.Native.Nat.{◌+◌, ◌≤◌, ◌<◌}
 use native.Mathlib.Omega.{arith}
-use borrow.Author.Rules.{rules}
 use lib.ListN.{length}
-use Rattle.shake.specs.Sponge.{made}
-use Rattle.shake.proofs.Absorb.{Took, took_none, took_block, took_all}
+use Rattle.shake.proofs.Absorb.{took_none, took_block, took_all}
 use Rattle.shake.proofs.Sponge.absorb.Goals as goal
 use Rattle.shake.proofs.Sponge.absorb.Goals.{After-least-m}
 

@@ -1,12 +1,10 @@
 -- `absorb` adds to the block what it has room for, a turn: the invariant is `Took`.
 -- Assumes nothing.
 use mathlib.Core.Path.{◌≡◌}
-use Prim.Native.Nat.{◌+◌, ◌-◌, ◌≤◌, ◌<◌}
-use native.Mathlib.Omega.{arith}
-use borrow.Author.Rules.{rules}
+use Prim.Native.Nat.{◌-◌, ◌≤◌}
 use lib.ListN.{length}
 use Rattle.shake.specs.Sponge.{made}
-use Rattle.shake.proofs.Absorb.{Took, took_none, took_block, took_all}
+use Rattle.shake.proofs.Absorb.{Took}
 use Rattle.shake.proofs.Sponge.absorb.Given as goal
 
 abbrev pub invariant-loop-i : goal.invariant-loop-i

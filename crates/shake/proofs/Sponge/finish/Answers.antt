@@ -4,7 +4,6 @@ use mathlib.Core.Path.{ap, ◌∙◌}
 use mathlib.Core.List.{List}
 use Prim.Native.Nat.{ℕ, ◌-◌, ◌/◌}
 use lib.ListN.{set}
-use borrow.Author.Rules.{rules}
 use Rattle.keccak.specs.Keccak.{keccak_f}
 use Rattle.shake.specs.Sponge.{made, xor_byte, finished}
 use Rattle.shake.proofs.Sponge.finish.Goals as goal

@@ -1,13 +1,11 @@
 -- `squeeze` gives byte after byte: the invariants are `Gave`, and `Upto` for the slice.
 -- Assumes nothing.
-use mathlib.Core.Path.{◌≡◌, ◌∙◌}
-use Prim.Native.Nat.{◌-◌, ◌≤◌}
+use mathlib.Core.Path.{◌∙◌}
+use Prim.Native.Nat.{◌≤◌}
 use native.Mathlib.Omega.{arith}
-use borrow.Author.Rules.{rules}
-use lib.ListN.{length}
-use Rattle.lists.proofs.Loops.{Upto, none, more, all}
-use Rattle.shake.specs.Sponge.{made, nth, squeezed}
-use Rattle.shake.proofs.Squeeze.{Gave, gave_none, gave_ready, gave_byte, gave_next, gave_all}
+use Rattle.lists.proofs.Loops.{none, more, all}
+use Rattle.shake.specs.Sponge.{squeezed}
+use Rattle.shake.proofs.Squeeze.{gave_none, gave_ready, gave_byte, gave_next, gave_all}
 use Rattle.shake.proofs.Sponge.squeeze.Goals as goal
 use Rattle.shake.proofs.Sponge.squeeze.Goals.{After-next_block-k}
 

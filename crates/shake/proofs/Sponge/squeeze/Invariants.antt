@@ -1,13 +1,11 @@
 -- `squeeze` gives byte after byte: the invariants are `Gave`, and `Upto` for the slice.
 -- Assumes nothing.
-use mathlib.Core.Path.{◌≡◌, ◌∙◌}
-use Prim.Native.Nat.{◌-◌, ◌≤◌}
-use native.Mathlib.Omega.{arith}
-use borrow.Author.Rules.{rules}
+use mathlib.Core.Path.{◌≡◌}
+use Prim.Native.Nat.{◌≤◌}
 use lib.ListN.{length}
-use Rattle.lists.proofs.Loops.{Upto, none, more, all}
-use Rattle.shake.specs.Sponge.{made, nth, squeezed}
-use Rattle.shake.proofs.Squeeze.{Gave, gave_none, gave_ready, gave_byte, gave_next, gave_all}
+use Rattle.lists.proofs.Loops.{Upto}
+use Rattle.shake.specs.Sponge.{made, nth}
+use Rattle.shake.proofs.Squeeze.{Gave}
 use Rattle.shake.proofs.Sponge.squeeze.Given as goal
 
 abbrev pub invariant-loop-i : goal.invariant-loop-i

@@ -1,14 +1,12 @@
 -- `squeeze_words` gives the words of a block a turn: the invariants are `GaveWords`, and `Upto` for the slice.
 -- Assumes nothing.
-use mathlib.Core.Path.{◌≡◌, ◌∙◌}
-use Prim.Native.Nat.{◌+◌, ◌*◌, ◌-◌, ◌≤◌, ◌<◌}
+use mathlib.Core.Path.{◌∙◌}
+use Prim.Native.Nat.{◌+◌, ◌*◌, ◌≤◌, ◌<◌}
 use native.Mathlib.Omega.{arith}
-use borrow.Author.Rules.{rules}
 use lib.ListN.{length}
-use Rattle.lists.proofs.Loops.{Upto, none, all}
-use Rattle.shake.specs.Sponge.{made}
+use Rattle.lists.proofs.Loops.{none, all}
 use Rattle.shake.proofs.Squeeze.{gave_all}
-use Rattle.shake.proofs.Words.{word, words_are, GaveWords, words_none, words_ready, words_more, words_part}
+use Rattle.shake.proofs.Words.{words_are, words_none, words_ready, words_more, words_part}
 use Rattle.shake.proofs.Sponge.squeeze_words.Goals as goal
 use Rattle.shake.proofs.Sponge.squeeze_words.Goals.{After-least-m}
 

@@ -1,14 +1,11 @@
 -- `squeeze_words` gives the words of a block a turn: the invariants are `GaveWords`, and `Upto` for the slice.
 -- Assumes nothing.
-use mathlib.Core.Path.{◌≡◌, ◌∙◌}
-use Prim.Native.Nat.{◌+◌, ◌*◌, ◌-◌, ◌≤◌, ◌<◌}
-use native.Mathlib.Omega.{arith}
-use borrow.Author.Rules.{rules}
+use mathlib.Core.Path.{◌≡◌}
+use Prim.Native.Nat.{◌-◌, ◌≤◌}
 use lib.ListN.{length}
-use Rattle.lists.proofs.Loops.{Upto, none, all}
+use Rattle.lists.proofs.Loops.{Upto}
 use Rattle.shake.specs.Sponge.{made}
-use Rattle.shake.proofs.Squeeze.{gave_all}
-use Rattle.shake.proofs.Words.{word, words_are, GaveWords, words_none, words_ready, words_more, words_part}
+use Rattle.shake.proofs.Words.{word, GaveWords}
 use Rattle.shake.proofs.Sponge.squeeze_words.Given as goal
 
 abbrev pub invariant-loop-i : goal.invariant-loop-i
