@@ -75,11 +75,11 @@ layout:
 wanted:
 	tests/wanted/check
 
-# From nothing; what it proved is then compiled and not proved again.
+# What an earlier run on this machine has not passed of the same files is proved and tried from nothing.
 prove:
 	tests/prove/run build/ci.log
 
-# What is not proved yet is proved on all cores first.
+# What is not proved yet is proved first.
 lib: wanted
 	host/c/archive frodo_c $(call about,name) $(DIST)/libfrodo_c.a
 	CC="$(CC)" host/c/shared $(DIST)/libfrodo_c.a $(VERSION)

@@ -1,4 +1,4 @@
-// Links the archive that `rt staticlib bench_c` writes; BENCH_ARCHIVE is its folder.
+// Links the archive that host/c/archive writes of the crate bench_c; BENCH_ARCHIVE is its folder.
 fn main() {
     let folder = std::env::var("BENCH_ARCHIVE").expect("BENCH_ARCHIVE names the folder of libbench_c.a");
     println!("cargo:rustc-link-search=native={folder}");
