@@ -175,4 +175,4 @@ lists: oracle
 	for list in shake_edges parts products kem; do python3 tests/lists/$$list.py || exit 1; done
 
 clean:
-	rm -rf target build dist
+	rm -rf build dist crates/*/out
