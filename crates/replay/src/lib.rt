@@ -47,12 +47,16 @@ pub fn comment(line: &[u8]) -> bool {
     line[0] == b'#'
 }
 
-// The file of that name, as much of it as out holds. Answers how many bytes, and an error where it cannot be opened or read.
-pub fn read(rt: &impl Files, path: &str, out: &mut [u8]) -> io::Result<usize>
+// The file of that name, as much of it as out holds. Answers how many bytes, and an error where it cannot be opened or read: then out may hold a part of it.
+// A name that is not UTF-8 is an error too, since std opens no such file.
+pub fn read(rt: &impl Files, path: &[u8], out: &mut [u8]) -> io::Result<usize>
     ensures within { IfOk result (λ n. n ≤ length out.new) }
     ensures kept { length out.new ≡ length out.old }
 {
-    let mut file = File::open(rt, path)?;
+    let Ok(name) = str::from_utf8(path) else {
+        return Err(io::Error::from(io::ErrorKind::InvalidInput));
+    };
+    let mut file = File::open(rt, name)?;
     let mut n = 0;
     while n < out.len() {
         let more = file.read(&mut out[n..])?;

@@ -247,23 +247,23 @@ fn refusals(rt: &impl Print) -> io::Result<Tally> {
     )?))
 }
 
-fn replay_list(rt: &(impl Files + Print), name: &[u8], path: &str, command: u8) -> io::Result<()> {
+fn replay_list(rt: &(impl Files + Print), name: &[u8], path: &[u8], command: u8) -> io::Result<()> {
     let mut text = [0u8; 524288];
     let n = replay::read(rt, path, &mut text)?;
-    let tally = lines(rt, path.as_bytes(), &text[0..n], command)?;
+    let tally = lines(rt, path, &text[0..n], command)?;
     replay::report(rt, name, tally)
 }
 
 fn replay_published(rt: &(impl Files + Print)) -> io::Result<()> {
-    replay_list(rt, b"published answers", "published.txt", b'k')?;
-    replay_list(rt, b"other published lines", "published.txt", b'?')
+    replay_list(rt, b"published answers", b"published.txt", b'k')?;
+    replay_list(rt, b"other published lines", b"published.txt", b'?')
 }
 
 fn replay_kem(rt: &(impl Files + Print)) -> io::Result<()> {
-    replay_list(rt, b"keys and ciphertexts", "kem.txt", b'k')?;
-    replay_list(rt, b"openings", "kem.txt", b'o')?;
-    replay_list(rt, b"margins", "kem.txt", b'm')?;
-    replay_list(rt, b"other lines", "kem.txt", b'?')
+    replay_list(rt, b"keys and ciphertexts", b"kem.txt", b'k')?;
+    replay_list(rt, b"openings", b"kem.txt", b'o')?;
+    replay_list(rt, b"margins", b"kem.txt", b'm')?;
+    replay_list(rt, b"other lines", b"kem.txt", b'?')
 }
 
 fn main(rt: HostRuntime) -> io::Result<()> {

@@ -340,6 +340,6 @@ fn report(rt: &impl Print, text: &[u8]) -> io::Result<()> {
 
 fn main(rt: HostRuntime) -> io::Result<()> {
     let mut text = [0u8; 262144];
-    let n = replay::read(&rt, "parts.txt", &mut text)?;
+    let n = replay::read(&rt, b"parts.txt", &mut text)?;
     report(&rt, &text[0..n])
 }

@@ -292,6 +292,6 @@ fn report(rt: &impl Print, text: &[u8]) -> io::Result<()> {
 
 fn main(rt: HostRuntime) -> io::Result<()> {
     let mut text = [0u8; 16384];
-    let n = replay::read(&rt, "products.txt", &mut text)?;
+    let n = replay::read(&rt, b"products.txt", &mut text)?;
     report(&rt, &text[0..n])
 }

@@ -154,13 +154,13 @@ fn lines(text: &[u8], edges: bool) -> Tally {
     tally
 }
 
-fn replay_list(rt: &(impl Files + Print), name: &[u8], path: &str, edges: bool) -> io::Result<()> {
+fn replay_list(rt: &(impl Files + Print), name: &[u8], path: &[u8], edges: bool) -> io::Result<()> {
     let mut text = [0u8; 262144];
     let n = replay::read(rt, path, &mut text)?;
     replay::report(rt, name, lines(&text[0..n], edges))
 }
 
 fn main(rt: HostRuntime) -> io::Result<()> {
-    replay_list(&rt, b"published answers", "published.txt", false)?;
-    replay_list(&rt, b"answers around each block's edge", "edges.txt", true)
+    replay_list(&rt, b"published answers", b"published.txt", false)?;
+    replay_list(&rt, b"answers around each block's edge", b"edges.txt", true)
 }

@@ -1,2 +1,3 @@
--- An answer from outside.
+-- An answer from outside, and when a sponge that was lent can be squeezed.
 pub mod Nothing
+pub mod Squeezed
