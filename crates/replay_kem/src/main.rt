@@ -117,39 +117,114 @@ fn rest_differs(
     )
 }
 
-// In memory of the set's lengths.
-fn calls_differ(
-    line: &[u8],
-    command: u8,
-    pk: &mut [u8],
-    sk: &mut [u8],
-    ct: &mut [u8],
-    ss: &mut [u8],
-) -> u32 {
-    let a = replay_calls::generated(line, pk, sk);
-    let b = replay_calls::sealed(line, pk, ct, ss);
-    let c = rest_differs(line, command, pk, sk, ct, ss);
-    first(a, first(b, c))
+// What is made of a line's set, seed, message and salt, in memory that held other bytes before, and what differed as it was made. Lines in a row that have these four alike
+// share it, so that it is made once for them.
+#[derive(Drop)]
+struct Sealing {
+    pk: [u8; 21520],
+    sk: [u8; 43088],
+    ct: [u8; 21696],
+    ss: [u8; 32],
+    what: u32,
+    // whether it is made, and the text of the four
+    made: bool,
+    of: [u8; 1024],
+    long: usize,
 }
 
-fn sealing_differs(line: &[u8], command: u8) -> u32 {
-    let mut pk = [0xa5u8; 21520];
-    let mut sk = [0xa5u8; 43088];
-    let mut ct = [0xa5u8; 21696];
-    let mut ss = [0xa5u8; 32];
+fn no_sealing() -> Sealing {
+    Sealing {
+        pk: [0xa5u8; 21520],
+        sk: [0xa5u8; 43088],
+        ct: [0xa5u8; 21696],
+        ss: [0xa5u8; 32],
+        what: 0,
+        made: false,
+        of: [0u8; 1024],
+        long: 0,
+    }
+}
+
+// The text of a line's set, seed, message and salt, where it has room. Answers whether it has.
+fn four(line: &[u8], out: &mut [u8; 1024]) -> bool {
+    let n = replay::field(line, 4).start;
+    if 1024 < n {
+        return false;
+    }
+    for i in 0..least(n, line.len()) {
+        if i < 1024 {
+            out[i] = line[i];
+        }
+    }
+    true
+}
+
+// Whether it is made of this line's four.
+fn is_of(line: &[u8], s: &Sealing) -> bool {
+    let n = least(replay::field(line, 4).start, line.len());
+    let k = least(s.long, 1024);
+    s.made && check::same(&line[0..n], &s.of[0..k])
+}
+
+// Keys and ciphertext, in memory of the set's lengths.
+fn calls_differ(line: &[u8], pk: &mut [u8], sk: &mut [u8], ct: &mut [u8], ss: &mut [u8]) -> u32 {
+    let a = replay_calls::generated(line, pk, sk);
+    let b = replay_calls::sealed(line, pk, ct, ss);
+    first(a, b)
+}
+
+fn make(line: &[u8], s: &mut Sealing) {
     let sizes = frodo::lengths_of(replay_calls::number_in(line, 0));
     let a = least(sizes.pk, 21520);
     let b = least(sizes.sk, 43088);
     let c = least(sizes.ct, 21696);
     let d = least(sizes.ss, 32);
-    calls_differ(
+    s.pk = [0xa5u8; 21520];
+    s.sk = [0xa5u8; 43088];
+    s.ct = [0xa5u8; 21696];
+    s.ss = [0xa5u8; 32];
+    s.what = calls_differ(
+        line,
+        &mut s.pk[0..a],
+        &mut s.sk[0..b],
+        &mut s.ct[0..c],
+        &mut s.ss[0..d],
+    );
+    s.made = four(line, &mut s.of);
+    s.long = replay::field(line, 4).start;
+}
+
+// The rest of a line, on copies of what was made, since damage is done to them.
+fn rest_of(
+    line: &[u8],
+    command: u8,
+    pk: [u8; 21520],
+    sk: [u8; 43088],
+    ct: [u8; 21696],
+    ss: [u8; 32],
+) -> u32 {
+    let mut sk = sk;
+    let mut ct = ct;
+    let sizes = frodo::lengths_of(replay_calls::number_in(line, 0));
+    let a = least(sizes.pk, 21520);
+    let b = least(sizes.sk, 43088);
+    let c = least(sizes.ct, 21696);
+    let d = least(sizes.ss, 32);
+    rest_differs(
         line,
         command,
-        &mut pk[0..a],
+        &pk[0..a],
         &mut sk[0..b],
         &mut ct[0..c],
-        &mut ss[0..d],
+        &ss[0..d],
     )
+}
+
+fn sealing_differs(line: &[u8], command: u8, s: &mut Sealing) -> u32 {
+    if !is_of(line, s) {
+        make(line, s);
+    }
+    first(s.what, rest_of(line, command, s.pk, s.sk, s.ct, s.ss))
 }
 
 // What stands behind the first field.
@@ -160,12 +235,12 @@ fn behind(line: &[u8]) -> usize
     f.start
 }
 
-fn line_differs(line: &[u8], command: u8) -> u32 {
+fn line_differs(line: &[u8], command: u8, s: &mut Sealing) -> u32 {
     let k = behind(line);
     let n = line.len();
     match command {
-        b'k' => sealing_differs(line, command),
-        b'o' => sealing_differs(&line[k..n], command),
+        b'k' => sealing_differs(line, command, s),
+        b'o' => sealing_differs(&line[k..n], command, s),
         b'm' => replay_calls::margin_differs(&line[k..n]),
         _ => of_call(LINE, COMMAND),
     }
@@ -183,10 +258,11 @@ fn replayed(
     number: usize,
     line: &[u8],
     command: u8,
+    s: &mut Sealing,
     tally: Tally,
 ) -> io::Result<Tally> {
     if command_of(line) == command {
-        let agrees = noted(rt, list, number, line_differs(line, command))?;
+        let agrees = noted(rt, list, number, line_differs(line, command, s))?;
         return Ok(tally.with(agrees));
     }
     Ok(tally)
@@ -197,10 +273,11 @@ fn lines(rt: &impl Print, list: &[u8], text: &[u8], command: u8) -> io::Result<T
     let mut tally = Tally::new();
     let mut at = 0;
     let mut number = 0;
+    let mut s = no_sealing();
     while at < text.len() {
         let end = replay::find(text, at, b'\n');
         number = next(number);
-        tally = replayed(rt, list, number, &text[at..end], command, tally)?;
+        tally = replayed(rt, list, number, &text[at..end], command, &mut s, tally)?;
         at = replay::past(text, at, end);
     }
     Ok(tally)
