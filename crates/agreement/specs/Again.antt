@@ -1,19 +1,16 @@
--- What redoing encapsulation asks of its lengths, and what the comparison of the first matrix leaves (docs/RULES.md, 4.10).
+-- What redoing encapsulation asks of lengths besides the ciphertext's own, and what the comparison of the first matrix leaves (docs/RULES.md, 4.10).
 -- Lists are named as on entry, and with ' as on exit.
 -- Assumes nothing.
 use Rattle.std.specs.Prelude.{◌≡◌, List, ℕ, ◌+◌, ◌*◌, take, drop}
 use Rattle.lists.specs.Lists.{residues, equal}
-use Rattle.sets.specs.Sets.{Valid}
 use Rattle.sets.specs.declared.Params.{Params}
 use Rattle.codec.specs.Pack.{unpacked}
 use Rattle.sealing.specs.Sealing.{mask_b}
 use Rattle.opening.specs.Opening.{bit}
 
--- a secret key, a ciphertext, a message and the scratches: of the scratches just the parts that it takes
-pub record AgainSized (p : Params) (sk ct msg noise work : ℕ) : Type 0 where
-  pub valid : Valid p
+-- a secret key, a message and the scratches: of the scratches just the parts that it takes
+pub record AgainSized (p : Params) (sk msg noise work : ℕ) : Type 0 where
   pub sk_long : sk ≡ p.sk
-  pub ct_long : ct ≡ p.ct
   pub msg_long : msg ≡ p.secret
   pub noise_long : noise ≡ 16 * p.n + 64
   pub work_long : work ≡ 8 * p.n

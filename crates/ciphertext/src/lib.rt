@@ -5,94 +5,43 @@ ghost use Rattle.std.specs.Prelude.{◌≡◌, length};
 ghost use Rattle.scheme.specs.Decaps.{ct_c1, ct_c2, ct_salt};
 ghost use Rattle.ciphertext.specs.Sized.{CiphertextSized};
 
-use sets::Params;
+use sets::Set;
 
-// ---- the parts, as the bytes stand
-
-fn c1_part<'a>(p: Params, ct: &'a [u8]) -> &'a [u8]
-    requires { CiphertextSized p (length ct.now) }
-    ensures { result.now ≡ ct_c1 p ct.now }
-{
-    let e = p.d * p.n;
-    &ct[0..e]
-}
-
-fn c2_part<'a>(p: Params, ct: &'a [u8]) -> &'a [u8]
-    requires { CiphertextSized p (length ct.now) }
-    ensures { result.now ≡ ct_c2 p ct.now }
-{
-    let a = p.d * p.n;
-    let e = a + p.d * 8;
-    &ct[a..e]
-}
-
-fn salt_part<'a>(p: Params, ct: &'a [u8]) -> &'a [u8]
-    requires { CiphertextSized p (length ct.now) }
-    ensures { result.now ≡ ct_salt p ct.now }
-{
-    let a = p.d * p.n + p.d * 8;
-    &ct[a..]
-}
-
-// ---- the view
-
-// The bytes of a ciphertext, and the set that says where its parts stand.
+// The bytes of a ciphertext, and the set that says where its parts stand. A view is had of bytes of the set's length alone.
 #[derive(Clone, Copy)]
 pub struct CiphertextRef<'a> {
-    bytes: &'a [u8],
-    set: Params,
+    pub bytes: &'a [u8],
+    pub set: Set,
+    pub ghost sized: { length bytes.now ≡ set.p.ct },
 }
 
 impl<'a> CiphertextRef<'a> {
-    // A view is had of bytes of the set's length alone.
-    pub fn from_slice(set: Params, bytes: &'a [u8]) -> CiphertextRef<'a>
-        requires { CiphertextSized set (length bytes.now) }
+    pub fn from_slice(set: Set, bytes: &'a [u8]) -> CiphertextRef<'a>
+        requires { CiphertextSized set.p (length bytes.now) }
         ensures { (result.bytes ≡ bytes.entry) × (result.set ≡ set) }
     {
         CiphertextRef { bytes, set }
     }
 
     pub fn c1(self) -> &'a [u8]
-        requires { CiphertextSized self.set (length self.bytes.now) }
-        ensures { result.now ≡ ct_c1 self.entry.set self.entry.bytes.now }
+        ensures { result.now ≡ ct_c1 self.entry.set.p self.entry.bytes.now }
     {
-        c1_part(self.set, self.bytes)
+        let e = self.set.p.d * self.set.p.n;
+        &self.bytes[..e]
     }
 
     pub fn c2(self) -> &'a [u8]
-        requires { CiphertextSized self.set (length self.bytes.now) }
-        ensures { result.now ≡ ct_c2 self.entry.set self.entry.bytes.now }
+        ensures { result.now ≡ ct_c2 self.entry.set.p self.entry.bytes.now }
     {
-        c2_part(self.set, self.bytes)
+        let a = self.set.p.d * self.set.p.n;
+        let e = a + self.set.p.d * 8;
+        &self.bytes[a..e]
     }
 
     pub fn salt(self) -> &'a [u8]
-        requires { CiphertextSized self.set (length self.bytes.now) }
-        ensures { result.now ≡ ct_salt self.entry.set self.entry.bytes.now }
+        ensures { result.now ≡ ct_salt self.entry.set.p self.entry.bytes.now }
     {
-        salt_part(self.set, self.bytes)
+        let a = self.set.p.d * self.set.p.n + self.set.p.d * 8;
+        &self.bytes[a..]
     }
-}
-
-// ---- for callers that have the bytes: each makes a view and asks it
-
-pub fn c1_of<'a>(p: Params, ct: &'a [u8]) -> &'a [u8]
-    requires { CiphertextSized p (length ct.now) }
-    ensures { result.now ≡ ct_c1 p ct.now }
-{
-    CiphertextRef::from_slice(p, ct).c1()
-}
-
-pub fn c2_of<'a>(p: Params, ct: &'a [u8]) -> &'a [u8]
-    requires { CiphertextSized p (length ct.now) }
-    ensures { result.now ≡ ct_c2 p ct.now }
-{
-    CiphertextRef::from_slice(p, ct).c2()
-}
-
-pub fn salt_of<'a>(p: Params, ct: &'a [u8]) -> &'a [u8]
-    requires { CiphertextSized p (length ct.now) }
-    ensures { result.now ≡ ct_salt p ct.now }
-{
-    CiphertextRef::from_slice(p, ct).salt()
 }

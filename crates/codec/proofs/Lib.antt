@@ -1,4 +1,3 @@
 -- The laws of packing.
 pub mod RoundTrip
 pub mod Sixteen
-pub mod Widths

@@ -6,32 +6,27 @@ ghost use Rattle.codec.specs.Pack.{packed, unpacked};
 ghost use Rattle.codec.specs.Packing.{Packing};
 
 use codec15::{pack_eight, unpack_fifteen};
-use words::{copy_bytes, copy_words, high_byte, low_byte, word};
 
 // Words of 15 bits as bytes, eight words at a time.
 fn pack15(words: &[u16], out: &mut [u8])
     requires { Packing 15 (length words.now) (length out.old) }
     ensures { out.new ≡ packed 15 words.now }
 {
-    let n = words.len() / 8;
-    for k in 0..n {
-        let i = 8 * k;
-        let j = i + 8;
-        let o = 15 * k;
-        let p = o + 15;
-        let v = pack_eight(&words[i..j]);
-        copy_bytes(&v, &mut out[o..p]);
+    for (k, eight) in words.chunks_exact(8).enumerate() {
+        out[15 * k..15 * k + 15].copy_from_slice(&pack_eight(eight));
     }
 }
 
 // Words of 16 bits as bytes.
+// Stays: one function for 15 and 16 bits would be a stream of bits at any width, which docs/RULES.md, 4.3.3, leaves out; a word of 16 bits is its own two bytes.
 fn pack16(words: &[u16], out: &mut [u8])
     requires { length out.old ≡ 2 * length words.now }
     ensures { out.new ≡ packed 16 words.now }
 {
-    for i in 0..words.len() {
-        out[2 * i] = high_byte(words[i]);
-        out[2 * i + 1] = low_byte(words[i]);
+    for (i, x) in words.iter().enumerate() {
+        let [higher, lower] = x.to_be_bytes();
+        out[2 * i] = higher;
+        out[2 * i + 1] = lower;
     }
 }
 
@@ -52,14 +47,8 @@ fn unpack15(bytes: &[u8], out: &mut [u16])
     requires { Packing 15 (length out.old) (length bytes.now) }
     ensures { out.new ≡ unpacked 15 bytes.now }
 {
-    let n = out.len() / 8;
-    for k in 0..n {
-        let i = 15 * k;
-        let j = i + 15;
-        let o = 8 * k;
-        let p = o + 8;
-        let v = unpack_fifteen(&bytes[i..j]);
-        copy_words(&v, &mut out[o..p]);
+    for (k, fifteen) in bytes.chunks_exact(15).enumerate() {
+        out[8 * k..8 * k + 8].copy_from_slice(&unpack_fifteen(fifteen));
     }
 }
 
@@ -68,8 +57,8 @@ fn unpack16(bytes: &[u8], out: &mut [u16])
     requires { length bytes.now ≡ 2 * length out.old }
     ensures { out.new ≡ unpacked 16 bytes.now }
 {
-    for i in 0..out.len() {
-        out[i] = word(bytes[2 * i + 1], bytes[2 * i]);
+    for (i, x) in out.iter_mut().enumerate() {
+        *x = u16::from_be_bytes([bytes[2 * i], bytes[2 * i + 1]]);
     }
 }
 

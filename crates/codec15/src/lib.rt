@@ -5,6 +5,7 @@ ghost use Rattle.std.specs.Prelude.{◌≡◌, [], ◌∷◌, length};
 ghost use Rattle.bits.specs.Stream.{regrouped};
 
 // Eight words mod 2^15, as bytes.
+// Stays: docs/RULES.md, 8.4, lays down a formula for each byte; each word has a name, here and in `fifteen`, since the formulas and their laws speak of it.
 fn eight(a: u16, b: u16, c: u16, d: u16, e: u16, f: u16, g: u16, h: u16) -> [u8; 15]
     ensures { result ≡ regrouped 15 8 (a ∷ b ∷ c ∷ d ∷ e ∷ f ∷ g ∷ h ∷ []) }
 {

@@ -2,7 +2,6 @@
 #![tactic(auto)]
 
 ghost use Rattle.std.specs.Prelude.{◌≡◌, cond, ◌++◌, ◌+◌, ◌≤◌, eqb, length};
-ghost use Rattle.sets.specs.Sets.{Valid};
 ghost use Rattle.lengths.specs.Sized.{DecapsSized, DecapsSecretSized};
 ghost use Rattle.scheme.specs.Parts.{hash};
 ghost use Rattle.scheme.specs.Encaps.{draw};
@@ -11,25 +10,25 @@ ghost use Rattle.agreement.specs.Again.{AgainSized};
 ghost use Rattle.decaps.specs.Made.{DecapsMade, DecapsSecretMade};
 
 use agreement::both_agree;
-use ciphertext::salt_of;
-use hashes::{hash2, hash3};
+use ciphertext::CiphertextRef;
+use hashes::hash;
 use opening::{ct_select, open_message};
-use sets::Params;
-use words::zero_words;
+use sets::Set;
 
+// Stays: the secret key is parts of a slice; each part is read at one place, and of a view beside the ciphertext's it would have to be asked that both have one set.
 // seedSE' and k' in a row, from the stored pkh, the message and the ciphertext's salt.
-fn draw_again(p: Params, sk: &[u8], ct: &[u8], msg: &[u8], seeds: &mut [u8])
-    requires { Valid p × (length sk.now ≡ p.sk) × (length ct.now ≡ p.ct) × (length seeds.old ≡ p.seedse + p.secret) }
-    ensures { seeds.new ≡ draw p (sk_pkh p sk.now) msg.now (ct_salt p ct.now) }
+fn draw_again(sk: &[u8], ct: CiphertextRef<'_>, msg: &[u8], seeds: &mut [u8])
+    requires { (length sk.now ≡ ct.set.p.sk) × (length seeds.old ≡ ct.set.p.seedse + ct.set.p.secret) }
+    ensures { seeds.new ≡ draw ct.entry.set.p (sk_pkh ct.entry.set.p sk.now) msg.now (ct_salt ct.entry.set.p ct.entry.bytes.now) }
 {
-    let pkh = p.sk - p.secret;
-    let end = p.sk;
-    hash3(p, &sk[pkh..end], msg, salt_of(p, ct), seeds);
+    let set = ct.set;
+    let pkh = set.p.sk - set.p.secret;
+    hash(set, &[&sk[pkh..], msg, ct.salt()], seeds);
 }
 
 // The secret over the ciphertext and k where choice is 1, or s where it is 0.
 fn chosen_secret(
-    p: Params,
+    set: Set,
     choice: u8,
     k: &[u8],
     s: &[u8],
@@ -37,18 +36,17 @@ fn chosen_secret(
     chosen: &mut [u8],
     ss: &mut [u8],
 )
-    requires { Valid p × (choice ≤ 1) × (length k.now ≡ length chosen.old) × (length s.now ≡ length chosen.old) }
-    ensures { ss.new ≡ hash p (ct.now ++ cond (eqb choice 1) k.now s.now) (length ss.old) }
+    requires { (choice ≤ 1) × (length k.now ≡ length chosen.old) × (length s.now ≡ length chosen.old) }
+    ensures { ss.new ≡ hash set.p (ct.now ++ cond (eqb choice 1) k.now s.now) (length ss.old) }
 {
     ct_select(choice, k, s, chosen);
-    hash2(p, ct, chosen, ss);
+    hash(set, &[ct, chosen], ss);
 }
 
 // The secret that goes with the message. seeds and chosen are room for seedSE' and k', and for what is hashed behind the ciphertext.
 fn secret_of(
-    p: Params,
     sk: &[u8],
-    ct: &[u8],
+    ct: CiphertextRef<'_>,
     msg: &[u8],
     seeds: &mut [u8],
     chosen: &mut [u8],
@@ -56,38 +54,36 @@ fn secret_of(
     noise: &mut [u16],
     work: &mut [u16],
 )
-    requires { AgainSized p (length sk.now) (length ct.now) (length msg.now) (length noise.old) (length work.old)
-        × (length seeds.old ≡ p.seedse + p.secret) × (length chosen.old ≡ p.secret) × (length ss.old ≡ p.secret) }
-    ensures { ss.new ≡ hash p (ct.now ++ decaps_k p sk.now ct.now msg.now) p.secret }
+    requires { AgainSized ct.set.p (length sk.now) (length msg.now) (length noise.old) (length work.old)
+        × (length seeds.old ≡ ct.set.p.seedse + ct.set.p.secret) × (length chosen.old ≡ ct.set.p.secret) × (length ss.old ≡ ct.set.p.secret) }
+    ensures { ss.new ≡ hash ct.entry.set.p (ct.entry.bytes.now ++ decaps_k ct.entry.set.p sk.now ct.entry.bytes.now msg.now) ct.entry.set.p.secret }
 {
-    let l = p.secret;
-    let a = p.seedse;
-    let b = a + l;
-    draw_again(p, sk, ct, msg, seeds);
-    let choice = both_agree(p, sk, ct, msg, &seeds[0..a], noise, work);
-    chosen_secret(p, choice, &seeds[a..b], &sk[0..l], ct, chosen, ss);
+    let set = ct.set;
+    draw_again(sk, ct, msg, seeds);
+    let (seedse, k) = seeds.split_at(set.p.seedse);
+    let choice = both_agree(sk, ct, msg, seedse, noise, work);
+    chosen_secret(set, choice, k, &sk[..set.p.secret], ct.bytes, chosen, ss);
 }
 
+// Stays: noise and work are two parameters; a struct of both was tried in crates/keys: the borrow checker does not cover a call that is lent parts of both fields.
 // The message and the secret, in scratches of just the room that they take.
 fn decapsulate_in(
-    p: Params,
     sk: &[u8],
-    ct: &[u8],
+    ct: CiphertextRef<'_>,
     ss: &mut [u8],
     msg: &mut [u8],
     noise: &mut [u16],
     work: &mut [u16],
 )
-    requires { AgainSized p (length sk.now) (length ct.now) (length msg.old) (length noise.old) (length work.old) × (length ss.old ≡ p.secret) }
-    ensures { (ss.new ≡ decaps_secret p sk.now ct.now) × (msg.new ≡ decaps_message p sk.now ct.now) }
+    requires { AgainSized ct.set.p (length sk.now) (length msg.old) (length noise.old) (length work.old) × (length ss.old ≡ ct.set.p.secret) }
+    ensures { (ss.new ≡ decaps_secret ct.entry.set.p sk.now ct.entry.bytes.now) × (msg.new ≡ decaps_message ct.entry.set.p sk.now ct.entry.bytes.now) }
 {
-    let l = p.secret;
-    let b = p.seedse + l;
+    let l = ct.set.p.secret;
+    let b = ct.set.p.seedse + l;
     let mut seeds = [0u8; 128];
     let mut chosen = [0u8; 32];
-    open_message(p, sk, ct, msg, noise, &mut work[0..64]);
+    open_message(sk, ct, msg, noise, &mut work[0..64]);
     secret_of(
-        p,
         sk,
         ct,
         msg,
@@ -102,7 +98,7 @@ fn decapsulate_in(
 // The shared secret and the message of a ciphertext. The message is written also where the matrices do not agree. The scratches may be longer than
 // they have to be.
 pub fn decapsulate(
-    p: Params,
+    set: Set,
     sk: &[u8],
     ct: &[u8],
     ss: &mut [u8],
@@ -110,29 +106,30 @@ pub fn decapsulate(
     noise: &mut [u16],
     work: &mut [u16],
 )
-    requires { DecapsSized p (length sk.now) (length ct.now) (length ss.old) (length msg.old) (length noise.old) (length work.old) }
-    ensures { DecapsMade p sk.now ct.now noise.old work.old ss.new msg.new noise.new work.new }
+    requires { DecapsSized set.p (length sk.now) (length ct.now) (length ss.old) (length msg.old) (length noise.old) (length work.old) }
+    ensures { DecapsMade set.p sk.now ct.now noise.old work.old ss.new msg.new noise.new work.new }
 {
-    let m = 8 * p.n;
-    let f = 16 * p.n + 64;
-    decapsulate_in(p, sk, ct, ss, msg, &mut noise[0..f], &mut work[0..m]);
-    zero_words(noise, p.noise);
-    zero_words(work, p.work);
+    let m = 8 * set.p.n;
+    let f = 16 * set.p.n + 64;
+    let view = CiphertextRef::from_slice(set, ct);
+    decapsulate_in(sk, view, ss, msg, &mut noise[0..f], &mut work[0..m]);
+    noise[..set.p.noise].fill(0);
+    work[..set.p.work].fill(0);
 }
 
 // The shared secret alone.
 pub fn decapsulate_shared_secret(
-    p: Params,
+    set: Set,
     sk: &[u8],
     ct: &[u8],
     ss: &mut [u8],
     noise: &mut [u16],
     work: &mut [u16],
 )
-    requires { DecapsSecretSized p (length sk.now) (length ct.now) (length ss.old) (length noise.old) (length work.old) }
-    ensures { DecapsSecretMade p sk.now ct.now noise.old work.old ss.new noise.new work.new }
+    requires { DecapsSecretSized set.p (length sk.now) (length ct.now) (length ss.old) (length noise.old) (length work.old) }
+    ensures { DecapsSecretMade set.p sk.now ct.now noise.old work.old ss.new noise.new work.new }
 {
-    let l = p.secret;
+    let l = set.p.secret;
     let mut msg = [0u8; 32];
-    decapsulate(p, sk, ct, ss, &mut msg[0..l], noise, work);
+    decapsulate(set, sk, ct, ss, &mut msg[0..l], noise, work);
 }

@@ -2,7 +2,7 @@
 -- Assumes nothing.
 use mathlib.Core.Path.{◌≡◌, refl}
 use Rattle.sets.specs.Sets.{params_of}
-use Rattle.sets.specs.declared.Answer.TheVariants.{Done}
+use Rattle.sets.specs.Answers.{Done}
 use Rattle.lengths.proofs.Shown.{keypair_shown, encaps_shown, decaps_shown, decaps_secret_shown, margin_shown}
 use Rattle.lengths.proofs.Fits.{keypair_fits, encaps_fits, decaps_fits, decaps_secret_fits, margin_fits}
 use Rattle.frodo.specs.Keypair.{KeypairLent, KeypairLeft, keypair_tests, keypair_done, keypair_refused, keypair_leaves}
@@ -11,11 +11,12 @@ use Rattle.frodo.specs.Decaps.{DecapsLent, DecapsLeft, decaps_tests, decaps_done
 use Rattle.frodo.specs.Decaps.{DecapsSecretLent, DecapsSecretLeft, decaps_secret_tests, decaps_secret_done, decaps_secret_refused, decaps_secret_leaves}
 use Rattle.frodo.specs.Margin.{MarginLent, MarginLeft, margin_tests, margin_done, margin_refused, margin_leaves}
 use Rattle.frodo.specs.DoneWhen.{KeypairDoneWhen, EncapsDoneWhen, DecapsDoneWhen, DecapsSecretDoneWhen, MarginDoneWhen}
-use Rattle.frodo.proofs.Told.{Called, done_left, done_when}
+use Rattle.frodo.proofs.Outcomes.{Called}
+use Rattle.frodo.proofs.Told.{done_left, done_when}
 
 -- ---- key generation
 
-abbrev keypair : KeypairLent → Called KeypairLeft
+abbrev pub keypair : KeypairLent → Called KeypairLeft
 keypair i = record { set = i.set; tests = keypair_tests i; done = keypair_done i; refused = keypair_refused i; answer = λ l. l.answer; is_done = λ p. refl; is_refused = λ a. refl }
 
 pub keypair_done_when : KeypairDoneWhen
@@ -28,7 +29,7 @@ keypair_done_left i = done_left (keypair i)
 
 -- ---- encapsulation
 
-abbrev encaps : EncapsLent → Called EncapsLeft
+abbrev pub encaps : EncapsLent → Called EncapsLeft
 encaps i = record { set = i.set; tests = encaps_tests i; done = encaps_done i; refused = encaps_refused i; answer = λ l. l.answer; is_done = λ p. refl; is_refused = λ a. refl }
 
 pub encaps_done_when : EncapsDoneWhen
@@ -41,7 +42,7 @@ encaps_done_left i = done_left (encaps i)
 
 -- ---- decapsulation with the message
 
-abbrev decaps : DecapsLent → Called DecapsLeft
+abbrev pub decaps : DecapsLent → Called DecapsLeft
 decaps i = record { set = i.set; tests = decaps_tests i; done = decaps_done i; refused = decaps_refused i; answer = λ l. l.answer; is_done = λ p. refl; is_refused = λ a. refl }
 
 pub decaps_done_when : DecapsDoneWhen
@@ -54,7 +55,7 @@ decaps_done_left i = done_left (decaps i)
 
 -- ---- and without
 
-abbrev decaps_secret : DecapsSecretLent → Called DecapsSecretLeft
+abbrev pub decaps_secret : DecapsSecretLent → Called DecapsSecretLeft
 decaps_secret i = record { set = i.set; tests = decaps_secret_tests i; done = decaps_secret_done i; refused = decaps_secret_refused i; answer = λ l. l.answer; is_done = λ p. refl; is_refused = λ a. refl }
 
 pub decaps_secret_done_when : DecapsSecretDoneWhen
@@ -67,7 +68,7 @@ decaps_secret_done_left i = done_left (decaps_secret i)
 
 -- ---- margin
 
-abbrev margin : MarginLent → Called MarginLeft
+abbrev pub margin : MarginLent → Called MarginLeft
 margin i = record { set = i.set; tests = margin_tests i; done = margin_done i; refused = margin_refused i; answer = λ l. l.margin.answer; is_done = λ p. refl; is_refused = λ a. refl }
 
 pub margin_done_when : MarginDoneWhen

@@ -5,52 +5,76 @@ use mathlib.Core.Bool.{Bool, cond}
 use Prim.Native.Nat.{ℕ}
 use native.Mathlib.Omega.{arith}
 use lib.Dec.{eqb}
-use borrow.Author.Tests.{eq-eqb, ne_eqb}
+use borrow.Author.Tests.{ne_eqb}
+use Rattle.std.specs.Prelude.{Some, None, Result, Ok, Err, IsErr, IsErrAnd}
 use Rattle.sets.specs.Sets.{chosen, params_of}
-use Rattle.sets.specs.Answers.{number_of}
+use Rattle.sets.specs.Answers.{Answer, Done, number_of}
 use Rattle.sets.specs.declared.Params.{Params}
-use Rattle.sets.specs.declared.Chosen.TheVariants.{Known, Unknown}
-use Rattle.sets.specs.declared.Answer.{Answer}
-use Rattle.sets.specs.declared.Answer.TheVariants.{Done, UnknownSet, SeedLength, PublicKeyLength, SecretKeyLength, CiphertextLength, MessageLength, SaltLength, SharedSecretLength, ScratchLength}
+use Rattle.sets.specs.declared.Refusal.{Refusal}
+use Rattle.sets.specs.declared.Refusal.TheVariants.{UnknownSet, SeedLength, PublicKeyLength, SecretKeyLength, CiphertextLength, MessageLength, SaltLength, SharedSecretLength, ScratchLength}
 use Rattle.sets.proofs.Facts.{picked}
 use Rattle.lengths.proofs.Shown.{tested_unknown, tested_known}
 use Rattle.frodo.specs.Outcome.{leaves}
 
--- only `Done` has the number 0
-pub zero_done : (a : Answer) → number_of a ≡ 0 → a ≡ Done
-zero_done Done e = refl
-zero_done UnknownSet e = absurd (omega arith)
-zero_done SeedLength e = absurd (omega arith)
-zero_done PublicKeyLength e = absurd (omega arith)
-zero_done SecretKeyLength e = absurd (omega arith)
-zero_done CiphertextLength e = absurd (omega arith)
-zero_done MessageLength e = absurd (omega arith)
-zero_done SaltLength e = absurd (omega arith)
-zero_done SharedSecretLength e = absurd (omega arith)
-zero_done ScratchLength e = absurd (omega arith)
+-- the error that a `?` answers is the one that it was given
+pub given : {T : Type 0} {r : Result T Refusal} {e : Refusal} → IsErr r × IsErrAnd r (λ x. x ≡ e) → r ≡ Err e
+given {r = Ok _} g = absurd g.1
+given {r = Err x} g = ap Err g.1
 
-module _ {Left : Type 0} (set : ℕ) (tests : Params → Answer) (done : Params → Left) (refused : Answer → Left) where
+-- no refusal has the number 0
+pub not_zero : (r : Refusal) → number_of (Err r) ≡ 0 → ⊥
+not_zero UnknownSet e = omega arith
+not_zero SeedLength e = omega arith
+not_zero PublicKeyLength e = omega arith
+not_zero SecretKeyLength e = omega arith
+not_zero CiphertextLength e = omega arith
+not_zero MessageLength e = omega arith
+not_zero SaltLength e = omega arith
+not_zero SharedSecretLength e = omega arith
+not_zero ScratchLength e = omega arith
+
+-- only `Done` has it
+pub zero_done : (a : Answer) → number_of a ≡ 0 → a ≡ Done
+zero_done (Ok _) e = refl
+zero_done (Err r) e = absurd (not_zero r e)
+
+-- a call on what it was lent: its set and tests, what it leaves done and refused, and the answer in what is left
+pub record Called (Left : Type 0) : Type 0 where
+  pub set : ℕ
+  pub tests : Params → Answer
+  pub done : Params → Left
+  pub refused : Answer → Left
+  pub answer : Left → Answer
+  pub is_done : (p : Params) → answer (done p) ≡ Done
+  pub is_refused : (a : Answer) → answer (refused a) ≡ a
+
+module _ {Left : Type 0} (c : Called Left) where
+  abbrev pub left : Left
+  left = leaves c.set c.tests c.done c.refused
+
   -- what is left, as a function of the answer
   by_answer : Answer → Left
-  by_answer a = cond (eqb (number_of a) 0) (done (params_of set)) (refused a)
+  by_answer a = cond (eqb (number_of a) 0) (c.done (params_of c.set)) (c.refused a)
+
+  by_refusal : (r : Refusal) → by_answer (Err r) ≡ c.refused (Err r)
+  unfolding by_answer
+  by_refusal r = ap (λ (b : Bool). cond b (c.done (params_of c.set)) (c.refused (Err r))) (ne_eqb (number_of (Err r)) 0 (not_zero r))
 
   -- a number that is no set
-  pub unknown : chosen set ≡ Unknown → refused UnknownSet ≡ leaves set tests done refused
+  pub unknown : {a : Answer} → chosen c.set ≡ None → a ≡ Err UnknownSet → c.refused a ≡ left
   unfolding by_answer
-  unknown e = sym (ap by_answer (tested_unknown set tests e))
+  unknown e q = ap c.refused q ∙ sym (ap by_answer (tested_unknown c.set c.tests e))
 
-  module _ {p : Params} {a : Answer} (e : chosen set ≡ Known p) (q : a ≡ tests p) where
-    answered : by_answer a ≡ leaves set tests done refused
+  module _ {p : Params} (e : chosen c.set ≡ Some p) where
+    answered : (a : Answer) → a ≡ c.tests p → by_answer a ≡ left
     unfolding by_answer
-    answered = ap by_answer (q ∙ sym (tested_known set p tests e))
+    answered a q = ap by_answer (q ∙ sym (tested_known c.set p c.tests e))
 
     -- a set whose tests give a refusal
-    pub refusal : (number_of a ≡ 0 → ⊥) → refused a ≡ leaves set tests done refused
-    unfolding by_answer
-    refusal h = sym (ap (λ (b : Bool). cond b (done (params_of set)) (refused a)) (ne_eqb (number_of a) 0 h)) ∙ answered
+    pub refusal : {a : Answer} {r : Refusal} → Err r ≡ c.tests p → a ≡ Err r → c.refused a ≡ left
+    refusal {r = r} t q = ap c.refused q ∙ sym (by_refusal r) ∙ answered (Err r) t
 
     -- a set whose tests are passed
-    pub finished : {x : Left} → number_of a ≡ 0 → x ≡ done p → x ≡ leaves set tests done refused
+    pub finished : {x : Left} → Done ≡ c.tests p → x ≡ c.done p → x ≡ left
     unfolding by_answer
-    finished z w =
-        w ∙ ap done (picked set p e).1 ∙ sym (ap (λ (b : Bool). cond b (done (params_of set)) (refused a)) (eq-eqb (number_of a) 0 z)) ∙ answered
+    finished t w = w ∙ ap c.done (picked c.set p e).1 ∙ answered Done t

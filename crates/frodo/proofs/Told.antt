@@ -3,37 +3,20 @@
 use mathlib.Core.Path.{◌≡◌, refl, sym, ap, ◌∙◌}
 use mathlib.Core.Logic.{◌↔◌}
 use mathlib.Core.Bool.{Bool, true, false, cond}
-use Prim.Native.Nat.{ℕ}
-use native.Mathlib.Omega.{arith}
 use lib.Dec.{eqb}
 use borrow.Author.Tests.{eqb-true}
 use Rattle.sets.specs.Sets.{known, params_of, Valid}
-use Rattle.sets.specs.Answers.{number_of}
 use Rattle.sets.specs.declared.Params.{Params}
-use Rattle.sets.specs.declared.Answer.{Answer}
-use Rattle.sets.specs.declared.Answer.TheVariants.{Done, UnknownSet}
+use Rattle.sets.specs.Answers.{Answer, Done, number_of}
+use Rattle.sets.specs.declared.Refusal.TheVariants.{UnknownSet}
 use Rattle.sets.proofs.Facts.{valid}
 use Rattle.lengths.specs.Refusals.{tested}
 use Rattle.lengths.proofs.Shown.{passed}
 use Rattle.lengths.proofs.Fits.{holds}
-use Rattle.frodo.specs.Outcome.{leaves}
 use Rattle.frodo.specs.DoneWhen.{Fits}
-use Rattle.frodo.proofs.Outcomes.{zero_done}
-
--- a call on what it was lent: its set and tests, what it leaves done and refused, and the answer in what is left
-pub record Called (Left : Type 0) : Type 0 where
-  pub set : ℕ
-  pub tests : Params → Answer
-  pub done : Params → Left
-  pub refused : Answer → Left
-  pub answer : Left → Answer
-  pub is_done : (p : Params) → answer (done p) ≡ Done
-  pub is_refused : (a : Answer) → answer (refused a) ≡ a
+use Rattle.frodo.proofs.Outcomes.{Called, left, zero_done}
 
 module _ {Left : Type 0} (c : Called Left) where
-  abbrev left : Left
-  left = leaves c.set c.tests c.done c.refused
-
   abbrev given : Answer
   given = tested c.set c.tests
 
@@ -42,22 +25,22 @@ module _ {Left : Type 0} (c : Called Left) where
   by_number false z = c.is_refused given
 
   -- its answer is what its tests give
-  pub told : c.answer left ≡ given
+  pub told : c.answer (left c) ≡ given
   told = by_number (eqb (number_of given) 0) refl
 
-  -- a call that answered `Done` has left what a done call of its set leaves
-  pub done_left : c.answer left ≡ Done → left ≡ c.done (params_of c.set)
+  -- a call that answered `Done` has (left c) what a done call of its set leaves
+  pub done_left : c.answer (left c) ≡ Done → left c ≡ c.done (params_of c.set)
   done_left e = ap (λ (a : Answer). cond (eqb (number_of a) 0) (c.done (params_of c.set)) (c.refused a)) (sym told ∙ e)
 
   -- where its tests show lengths, and lengths pass its tests, it is done exactly where they fit
   pub done_when : {Sized : Params → Type 0} → ((p : Params) → Valid p → c.tests p ≡ Done → Sized p) → ((p : Params) → Sized p → c.tests p ≡ Done)
-      → (c.answer left ≡ Done) ↔ Fits c.set Sized
+      → (c.answer (left c) ≡ Done) ↔ Fits c.set Sized
   done_when {Sized} shown fits = (there, back)
     where
-      there : c.answer left ≡ Done → Fits c.set Sized
+      there : c.answer (left c) ≡ Done → Fits c.set Sized
       there e =
-          let t = passed UnknownSet (known c.set) (c.tests (params_of c.set)) (λ z. omega arith) (sym told ∙ e) in
+          let t = passed UnknownSet (known c.set) (c.tests (params_of c.set)) (sym told ∙ e) in
           record { a_set = t.0; sized = shown (params_of c.set) (valid c.set) t.1 }
 
-      back : Fits c.set Sized → c.answer left ≡ Done
+      back : Fits c.set Sized → c.answer (left c) ≡ Done
       back f = told ∙ holds UnknownSet (known c.set) (c.tests (params_of c.set)) f.a_set (fits (params_of c.set) f.sized)

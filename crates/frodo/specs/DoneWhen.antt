@@ -3,8 +3,7 @@
 use Rattle.std.specs.Prelude.{◌≡◌, ◌↔◌, true, ℕ, length}
 use Rattle.sets.specs.Sets.{known, params_of}
 use Rattle.sets.specs.declared.Params.{Params}
-use Rattle.sets.specs.declared.Answer.{Answer}
-use Rattle.sets.specs.declared.Answer.TheVariants.{Done}
+use Rattle.sets.specs.Answers.{Answer, Done}
 use Rattle.lengths.specs.Sized.{KeypairSized, EncapsSized, DecapsSized, DecapsSecretSized, MarginSized}
 use Rattle.frodo.specs.Keypair.{KeypairLent, keypair_leaves}
 use Rattle.frodo.specs.Encaps.{EncapsLent, encaps_leaves}

@@ -3,8 +3,7 @@
 use Rattle.std.specs.Prelude.{List, ℕ, length}
 use Rattle.lists.specs.Lists.{wiped}
 use Rattle.sets.specs.declared.Params.{Params}
-use Rattle.sets.specs.declared.Answer.{Answer}
-use Rattle.sets.specs.declared.Answer.TheVariants.{Done}
+use Rattle.sets.specs.Answers.{Answer, Done}
 use Rattle.lengths.specs.Refusals.{encaps_test}
 use Rattle.scheme.specs.Encaps.{ciphertext, shared_secret}
 use Rattle.frodo.specs.Outcome.{leaves}

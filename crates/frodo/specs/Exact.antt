@@ -3,7 +3,7 @@
 use Rattle.std.specs.Prelude.{◌≡◌, false}
 use Rattle.std.specs.Float.Ieee.Exact.{HasValue}
 use Rattle.sets.specs.Sets.{params_of}
-use Rattle.sets.specs.declared.Answer.TheVariants.{Done}
+use Rattle.sets.specs.Answers.{Done}
 use Rattle.message.specs.Message.{half}
 use Rattle.frodo.specs.Margin.{MarginLent, margin_leaves}
 

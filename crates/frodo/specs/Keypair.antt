@@ -3,8 +3,7 @@
 use Rattle.std.specs.Prelude.{List, ℕ, length, replicate}
 use Rattle.lists.specs.Lists.{wiped}
 use Rattle.sets.specs.declared.Params.{Params}
-use Rattle.sets.specs.declared.Answer.{Answer}
-use Rattle.sets.specs.declared.Answer.TheVariants.{Done}
+use Rattle.sets.specs.Answers.{Answer, Done}
 use Rattle.lengths.specs.Refusals.{keypair_test}
 use Rattle.scheme.specs.KeyGen.{public_key, secret_key}
 use Rattle.frodo.specs.Outcome.{leaves}

@@ -3,12 +3,11 @@
 use Rattle.std.specs.Prelude.{List, ℕ, length}
 use Rattle.lists.specs.Lists.{wiped}
 use Rattle.sets.specs.declared.Params.{Params}
-use Rattle.sets.specs.declared.Answer.{Answer}
+use Rattle.sets.specs.Answers.{Answer}
 use Rattle.lengths.specs.Refusals.{margin_test}
 use Rattle.message.specs.Message.{half}
 use Rattle.scheme.specs.Margin.{margin_size, kept}
-use Rattle.ratio.specs.declared.Margin.{Margin}
-use Rattle.ratio.specs.Answered.{refused_margin, done_margin}
+use Rattle.ratio.specs.Answered.{MarginAnswer, refused_margin, done_margin}
 use Rattle.frodo.specs.Outcome.{leaves}
 
 pub record MarginLent : Type 0 where
@@ -21,7 +20,7 @@ pub record MarginLent : Type 0 where
 
 -- seed, msg and salt are lent to be read: nothing can change them. The answer stands in the margin
 pub record MarginLeft : Type 0 where
-  pub margin : Margin
+  pub margin : MarginAnswer
   pub noise : List ℕ
   pub work : List ℕ
 

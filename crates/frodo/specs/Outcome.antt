@@ -4,7 +4,7 @@ use Rattle.std.specs.Prelude.{cond, ℕ, eqb}
 use Rattle.sets.specs.Sets.{params_of}
 use Rattle.sets.specs.Answers.{number_of}
 use Rattle.sets.specs.declared.Params.{Params}
-use Rattle.sets.specs.declared.Answer.{Answer}
+use Rattle.sets.specs.Answers.{Answer}
 use Rattle.lengths.specs.Refusals.{tested}
 
 -- what a call leaves: by the number of its answer, which is that of the first test that fails, what a done call of the set leaves or what a refused one does

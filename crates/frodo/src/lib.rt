@@ -3,11 +3,16 @@
 #![tactic(auto)]
 
 ghost use Rattle.std.specs.Prelude.{◌≡◌};
-ghost use Rattle.frodo.specs.SetLengths.{lengths_for};
+ghost use Rattle.frodo.specs.SetLengths.{lengths_of, lengths_for};
+ghost use Rattle.ratio.specs.Answered.{answered};
 ghost use Rattle.frodo.specs.One.{Keypair, Encaps, Decaps, DecapsSecret, Margins};
 
 use ratio::Margin;
-use sets::{Answer, Chosen};
+use sets::{Params, Refusal};
+
+// Stays: a set is a number here and no enum, since the runtime hands any number, and one that is no set is refused with 1 (docs/RULES.md, 3.1 and 7.5).
+
+// Stays: every buffer is an argument of its own, since the calls are lent what the C interface lends (crates/frodo_c), and a contract names what each holds before and after.
 
 pub fn generate_keypair_from_seed(
     set: u32,
@@ -16,21 +21,15 @@ pub fn generate_keypair_from_seed(
     sk: &mut [u8],
     noise: &mut [u16],
     work: &mut [u16],
-) -> Answer
+) -> Result<(), Refusal>
     ensures { Keypair
         (record { set = set; seed = seed.old; pk = pk.old; sk = sk.old; noise = noise.old; work = work.old })
         (record { answer = result; seed = seed.new; pk = pk.new; sk = sk.new; noise = noise.new; work = work.new }) }
 {
-    let Chosen::Known(p) = sets::choose(set) else {
-        return Answer::UnknownSet;
-    };
-    let answer = lengths::keypair(p, seed.len(), pk.len(), sk.len(), noise.len(), work.len());
-    let refusal = sets::number(answer);
-    if refusal != 0 {
-        return answer;
-    }
-    keypair::generate(p, seed, pk, sk, noise, work);
-    Answer::Done
+    let set = sets::choose(set).ok_or(Refusal::UnknownSet)?;
+    lengths::keypair(set, seed.len(), pk.len(), sk.len(), noise.len(), work.len())?;
+    keypair::generate(set, seed, pk, sk, noise, work);
+    Ok(())
 }
 
 pub fn encapsulate(
@@ -42,16 +41,14 @@ pub fn encapsulate(
     ss: &mut [u8],
     noise: &mut [u16],
     work: &mut [u16],
-) -> Answer
+) -> Result<(), Refusal>
     ensures { Encaps
         (record { set = set; pk = pk.now; msg = msg.now; salt = salt.now; ct = ct.old; ss = ss.old; noise = noise.old; work = work.old })
         (record { answer = result; ct = ct.new; ss = ss.new; noise = noise.new; work = work.new }) }
 {
-    let Chosen::Known(p) = sets::choose(set) else {
-        return Answer::UnknownSet;
-    };
-    let answer = lengths::encaps(
-        p,
+    let set = sets::choose(set).ok_or(Refusal::UnknownSet)?;
+    lengths::encaps(
+        set,
         pk.len(),
         msg.len(),
         salt.len(),
@@ -59,13 +56,9 @@ pub fn encapsulate(
         ss.len(),
         noise.len(),
         work.len(),
-    );
-    let refusal = sets::number(answer);
-    if refusal != 0 {
-        return answer;
-    }
-    encaps::encapsulate(p, pk, msg, salt, ct, ss, noise, work);
-    Answer::Done
+    )?;
+    encaps::encapsulate(set, pk, msg, salt, ct, ss, noise, work);
+    Ok(())
 }
 
 pub fn decapsulate(
@@ -76,29 +69,23 @@ pub fn decapsulate(
     msg: &mut [u8],
     noise: &mut [u16],
     work: &mut [u16],
-) -> Answer
+) -> Result<(), Refusal>
     ensures { Decaps
         (record { set = set; sk = sk.now; ct = ct.now; ss = ss.old; msg = msg.old; noise = noise.old; work = work.old })
         (record { answer = result; ss = ss.new; msg = msg.new; noise = noise.new; work = work.new }) }
 {
-    let Chosen::Known(p) = sets::choose(set) else {
-        return Answer::UnknownSet;
-    };
-    let answer = lengths::decaps(
-        p,
+    let set = sets::choose(set).ok_or(Refusal::UnknownSet)?;
+    lengths::decaps(
+        set,
         sk.len(),
         ct.len(),
         ss.len(),
         msg.len(),
         noise.len(),
         work.len(),
-    );
-    let refusal = sets::number(answer);
-    if refusal != 0 {
-        return answer;
-    }
-    decaps::decapsulate(p, sk, ct, ss, msg, noise, work);
-    Answer::Done
+    )?;
+    decaps::decapsulate(set, sk, ct, ss, msg, noise, work);
+    Ok(())
 }
 
 pub fn decapsulate_shared_secret(
@@ -108,21 +95,15 @@ pub fn decapsulate_shared_secret(
     ss: &mut [u8],
     noise: &mut [u16],
     work: &mut [u16],
-) -> Answer
+) -> Result<(), Refusal>
     ensures { DecapsSecret
         (record { set = set; sk = sk.now; ct = ct.now; ss = ss.old; noise = noise.old; work = work.old })
         (record { answer = result; ss = ss.new; noise = noise.new; work = work.new }) }
 {
-    let Chosen::Known(p) = sets::choose(set) else {
-        return Answer::UnknownSet;
-    };
-    let answer = lengths::decaps_secret(p, sk.len(), ct.len(), ss.len(), noise.len(), work.len());
-    let refusal = sets::number(answer);
-    if refusal != 0 {
-        return answer;
-    }
-    decaps::decapsulate_shared_secret(p, sk, ct, ss, noise, work);
-    Answer::Done
+    let set = sets::choose(set).ok_or(Refusal::UnknownSet)?;
+    lengths::decaps_secret(set, sk.len(), ct.len(), ss.len(), noise.len(), work.len())?;
+    decaps::decapsulate_shared_secret(set, sk, ct, ss, noise, work);
+    Ok(())
 }
 
 // The seed is kept: a margin is asked for where seed, message and salt are still known.
@@ -133,31 +114,25 @@ pub fn margin(
     salt: &[u8],
     noise: &mut [u16],
     work: &mut [u16],
-) -> Margin
+) -> Result<Margin, Refusal>
     ensures { Margins
         (record { set = set; seed = seed.now; msg = msg.now; salt = salt.now; noise = noise.old; work = work.old })
-        (record { margin = result; noise = noise.new; work = work.new }) }
+        (record { margin = answered result; noise = noise.new; work = work.new }) }
 {
-    let Chosen::Known(p) = sets::choose(set) else {
-        return ratio::refused(Answer::UnknownSet);
-    };
-    let answer = lengths::margin(
-        p,
+    let set = sets::choose(set).ok_or(Refusal::UnknownSet)?;
+    lengths::margin(
+        set,
         seed.len(),
         msg.len(),
         salt.len(),
         noise.len(),
         work.len(),
-    );
-    let refusal = sets::number(answer);
-    if refusal != 0 {
-        return ratio::refused(answer);
-    }
-    margin::margin(p, seed, msg, salt, noise, work)
+    )?;
+    Ok(margin::margin(set, seed, msg, salt, noise, work))
 }
 
 // The lengths of a set's buffers, the scratches' in words.
-#[derive(Clone, Copy)]
+#[derive(Clone, Copy, Default)]
 pub struct SetLengths {
     pub seed: usize,
     pub pk: usize,
@@ -170,32 +145,30 @@ pub struct SetLengths {
     pub work: usize,
 }
 
+impl From<Params> for SetLengths {
+    ghost from_gives = { λ p l. l ≡ lengths_of p };
+
+    fn from(p: Params) -> SetLengths {
+        SetLengths {
+            seed: p.seed,
+            pk: p.pk,
+            sk: p.sk,
+            ct: p.ct,
+            message: p.secret,
+            salt: p.salt,
+            ss: p.secret,
+            noise: p.noise,
+            work: p.work,
+        }
+    }
+}
+
 // All 0 where the number is no set.
 pub fn lengths_of(set: u32) -> SetLengths
     ensures { result ≡ lengths_for set }
 {
-    let Chosen::Known(p) = sets::choose(set) else {
-        return SetLengths {
-            seed: 0,
-            pk: 0,
-            sk: 0,
-            ct: 0,
-            message: 0,
-            salt: 0,
-            ss: 0,
-            noise: 0,
-            work: 0,
-        };
-    };
-    SetLengths {
-        seed: p.seed,
-        pk: p.pk,
-        sk: p.sk,
-        ct: p.ct,
-        message: p.secret,
-        salt: p.salt,
-        ss: p.secret,
-        noise: p.noise,
-        work: p.work,
+    match sets::choose(set) {
+        Some(set) => SetLengths::from(set.p),
+        None => SetLengths::default(),
     }
 }

@@ -3,9 +3,8 @@
 use mathlib.Core.Path.{◌≡◌, refl, sym, ap, ◌∙◌}
 use Prim.Native.Nat.{ℕ}
 use Rattle.sets.specs.Answers.{number_of}
-use Rattle.sets.specs.declared.Answer.{Answer}
-use Rattle.sets.specs.declared.Answer.TheVariants.{Done}
-use Rattle.ratio.specs.declared.Margin.{Margin}
+use Rattle.sets.specs.Answers.{Answer, Done}
+use Rattle.ratio.specs.Answered.{MarginAnswer}
 use Rattle.frodo.specs.Keypair.{KeypairLent, KeypairLeft}
 use Rattle.frodo.specs.Encaps.{EncapsLent, EncapsLeft}
 use Rattle.frodo.specs.Decaps.{DecapsLent, DecapsLeft, DecapsSecretLent, DecapsSecretLeft}
@@ -54,7 +53,7 @@ pub decaps_secret_number_one : (i : DecapsSecretLent) (x y : DecapsSecretLeft) (
 decaps_secret_number_one = number_one DecapsSecret decaps_secret_one secret_with (λ l. l.answer) (λ l a. refl) (λ l a. refl)
 
 -- the margin: what is left has the margin in it, and the struct is a function of that
-abbrev margin_with : MarginLeft → Margin → MarginLeft
+abbrev margin_with : MarginLeft → MarginAnswer → MarginLeft
 margin_with l m = record { margin = m; noise = l.noise; work = l.work }
 
 pub margin_struct_one : (i : MarginLent) (x y : MarginLeft) (r s : FrodoMargin)

@@ -2,8 +2,8 @@
 -- Assumes nothing.
 use Rattle.std.specs.Prelude.{◌≡◌, Bool, true, false, ℕ}
 use Rattle.sets.specs.Answers.{number_of}
-use Rattle.sets.specs.declared.Answer.{Answer}
-use Rattle.ratio.specs.declared.Margin.{Margin}
+use Rattle.sets.specs.Answers.{Answer}
+use Rattle.ratio.specs.Answered.{MarginAnswer}
 use Rattle.frodo_c.specs.declared.FrodoMargin.{FrodoMargin}
 
 pub record Call (left : Answer → Type 0) (r : ℕ) : Type 0 where
@@ -17,10 +17,10 @@ flag_of true = 1
 flag_of false = 0
 
 -- a margin as struct frodo_margin has it
-abbrev pub margin_of : Margin → FrodoMargin
+abbrev pub margin_of : MarginAnswer → FrodoMargin
 margin_of m = record { refusal = number_of m.answer; size = m.size; ratio = m.ratio; kept = flag_of m.kept }
 
-pub record MarginCall (left : Margin → Type 0) (r : FrodoMargin) : Type 0 where
-  pub margin : Margin
+pub record MarginCall (left : MarginAnswer → Type 0) (r : FrodoMargin) : Type 0 where
+  pub margin : MarginAnswer
   pub is : r ≡ margin_of margin
   pub holds : left margin

@@ -2,13 +2,17 @@
 #![tactic(auto)]
 
 ghost use Rattle.std.specs.Prelude.{◌≡◌};
+ghost use Rattle.ratio.specs.Answered.{answered};
 ghost use Rattle.frodo.specs.One.{Keypair, Encaps, Decaps, DecapsSecret, Margins};
 ghost use Rattle.frodo.specs.SetLengths.{lengths_for};
-ghost use Rattle.frodo_c.specs.Call.{Call, MarginCall, flag_of, margin_of};
+ghost use Rattle.frodo_c.specs.Call.{Call, MarginCall, margin_of};
 ghost use Rattle.frodo_c.specs.Table.{Fits, lengths_in_c};
 
 use frodo::SetLengths;
 use ratio::Margin;
+use sets::Refusal;
+
+// Stays: the C interface: a set is any number, an answer is the paper's number, and a buffer is a slice of its own, as include/frodo.h declares each function.
 
 #[unsafe(no_mangle)]
 pub extern "C" fn frodo_generate_keypair_from_seed(
@@ -82,6 +86,7 @@ pub extern "C" fn frodo_decapsulate_shared_secret(
 }
 
 // struct frodo_margin of the C interface.
+// Stays: the C interface: it has the refusal's number beside the margin, and the verdict as 1 or 0.
 #[repr(C)]
 #[derive(Clone, Copy)]
 pub struct FrodoMargin {
@@ -91,22 +96,22 @@ pub struct FrodoMargin {
     pub kept: u32,
 }
 
-fn flag(x: bool) -> u32
-    ensures { result ≡ flag_of x }
+fn margin_of(m: Result<Margin, Refusal>) -> FrodoMargin
+    ensures { result ≡ margin_of (answered m) }
 {
-    if x { 1 } else { 0 }
-}
-
-fn margin_of(m: Margin) -> FrodoMargin
-    ensures { result ≡ margin_of m }
-{
-    let answer = m.answer;
-    let kept = m.kept;
-    FrodoMargin {
-        refusal: sets::number(answer),
-        size: m.size,
-        ratio: m.ratio,
-        kept: flag(kept),
+    match m {
+        Ok(m) => FrodoMargin {
+            refusal: 0,
+            size: m.size,
+            ratio: m.ratio,
+            kept: u32::from(m.kept),
+        },
+        Err(refusal) => FrodoMargin {
+            refusal: sets::number(Err(refusal)),
+            size: 0,
+            ratio: 0.0,
+            kept: 0,
+        },
     }
 }
 
@@ -142,6 +147,7 @@ pub struct FrodoLengths {
     pub work_words: u32,
 }
 
+// Stays: a function with a `requires` and no `From`, which cannot ask that the lengths fit into 32 bits.
 fn lengths_in_c(l: SetLengths) -> FrodoLengths
     requires { Fits l }
     ensures { result ≡ lengths_in_c l }

@@ -3,11 +3,10 @@
 use mathlib.Core.Path.{◌≡◌, sym, ap, ◌∙◌, subst}
 use Prim.Native.Nat.{ℕ, suc, ◌+◌, ◌-◌, ◌%◌, ◌<◌}
 use native.Mathlib.Omega.{arith}
-use lib.Dec.{T}
 use lib.IntN.{ℤ, pos, negsuc, nat_abs, ◌+ℤ◌}
-use lib.Signed.{mag, non_neg}
+use lib.Signed.{mag}
 use mir.Syntax.{w16, w32}
-use mir.Val.{Fits, SFits, to_z, of_z}
+use mir.Val.{SFits, to_z, of_z}
 use mir.Facts.{to_z-of_z}
 use Rattle.algebra.proofs.Wholes.{at_least}
 use Rattle.scheme.specs.Parts.{stored}
@@ -49,9 +48,6 @@ module _ (x : ℤ) (f : SFits w16 x) where
 
   back : to_z w32 (of_z w32 (again +ℤ pos 65536)) ≡ pos (lifted x)
   back = to_z-of_z sum_fits ∙ sum_is
-
-  pub not_negative : T (non_neg (to_z w32 (of_z w32 (again +ℤ pos 65536)))) × Fits w32 (nat_abs (to_z w32 (of_z w32 (again +ℤ pos 65536))))
-  not_negative = subst (λ (z : ℤ). T (non_neg z) × Fits w32 (nat_abs z)) (sym back) (tt, record { fits = omega (arith, lift_lt x f.sfits) })
 
   pub stored_is : nat_abs (to_z w32 (of_z w32 (again +ℤ pos 65536))) % 65536 ≡ stored x
   stored_is = ap (λ (z : ℤ). nat_abs z % 65536) back ∙ lift_mod x f.sfits

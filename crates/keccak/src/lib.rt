@@ -1,4 +1,5 @@
 // FIPS 202 (2015), KECCAK-p[1600, 24] (docs/RULES.md, 4.1 and 7.3). The state is 25 lanes by value, lane (x, y) at x + 5 y; the steps have their names there.
+// Stays: each step takes a `[u64; 25]` by value and gives it back (docs/RULES.md, 7.3).
 #![tactic(auto)]
 
 ghost use Rattle.std.specs.Prelude.{◌≡◌, ◌<◌, [], ◌∷◌};
@@ -177,10 +178,9 @@ const ROUND_CONSTANTS: [u64; 24] = [
 pub fn keccak_f(a: [u64; 25]) -> [u64; 25]
     ensures { result ≡ keccak_f a }
 {
-    let constants = ROUND_CONSTANTS;
     let mut s = a;
-    for i in 0..24 {
-        let next = round(s, constants[i]);
+    for constant in ROUND_CONSTANTS {
+        let next = round(s, constant);
         s = next;
     }
     s

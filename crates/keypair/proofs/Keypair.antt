@@ -12,23 +12,13 @@ use Rattle.sets.specs.declared.Params.{Params}
 use Rattle.lengths.specs.Sized.{KeypairSized}
 use Rattle.scheme.specs.Parts.{pkh_of}
 use Rattle.scheme.specs.KeyGen.{seed_s, key_noise, secret_key}
-use Rattle.scheme.proofs.Keys.{length_key_noise, length_key_s, length_public_key}
+use Rattle.scheme.proofs.Keys.{length_key_noise}
 use Rattle.keys.specs.Made.{PublicMade}
 use Rattle.keys.proofs.Matrices.{front_is_S}
-use Rattle.keypair.specs.Made.{KeypairMade, SecretSized}
+use Rattle.keypair.specs.Made.{KeypairMade}
 use Rattle.lists.proofs.Filled.{drop_later}
 
 module _ (p : Params) (seed pk sk noise work : List ℕ) (sized : KeypairSized p (length seed) (length pk) (length sk) (length noise) (length work)) {pk' noise' work' : List ℕ} (made : PublicMade p seed noise work pk' noise' work') where
-  -- lengths that the secret key asks for
-  pub secret_sized : SecretSized p (length seed) (length pk') (length (take (8 * p.n - 0) noise')) (length sk)
-  secret_sized = record {
-    valid = sized.valid;
-    seed_long = sized.seed_long;
-    pk_long = ap length made.pk_is ∙ length_public_key p sized.valid seed;
-    s_long = ap length (front_is_S p sized.valid seed _ made.matrix.noise_is) ∙ length_key_s p sized.valid seed;
-    sk_long = sized.sk_long;
-  }
-
   -- what the call leaves
   pub keypair_made : {seed'' sk'' noise'' work'' : List ℕ} → sk'' ≡ seed_s p seed ++ (pk' ++ (bytes_of (take (8 * p.n - 0) noise') ++ pkh_of p pk'))
       → seed'' ≡ replicate (length seed) 0 → noise'' ≡ wiped p.noise noise' → work'' ≡ wiped p.work work'

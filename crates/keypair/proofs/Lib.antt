@@ -1,3 +1,2 @@
 -- The laws of key generation's steps.
-pub mod SecretKey
 pub mod Keypair

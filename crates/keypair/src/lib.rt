@@ -10,41 +10,41 @@ ghost use Rattle.keypair.specs.Made.{SecretSized, KeypairMade};
 
 use hashes::hash;
 use keys::public_key;
-use sets::Params;
-use words::{bytes_of, copy_bytes, zero_bytes, zero_words};
+use sets::Set;
+use words::bytes_of;
 
 // The secret key: s, the public key, S with all 16 bits of its words, pkh.
-fn secret_key(p: Params, seed: &[u8], pk: &[u8], s: &[u16], sk: &mut [u8])
-    requires { SecretSized p (length seed.now) (length pk.now) (length s.now) (length sk.old) }
-    ensures { sk.new ≡ seed_s p seed.now ++ (pk.now ++ (bytes_of s.now ++ pkh_of p pk.now)) }
+fn secret_key(set: Set, seed: &[u8], pk: &[u8], s: &[u16], sk: &mut [u8])
+    requires { SecretSized set.p (length seed.now) (length pk.now) (length s.now) (length sk.old) }
+    ensures { sk.new ≡ seed_s set.p seed.now ++ (pk.now ++ (bytes_of s.now ++ pkh_of set.p pk.now)) }
 {
-    let at_pk = p.secret;
-    let at_s = at_pk + p.pk;
-    let at_pkh = at_s + 16 * p.n;
-    let end = p.sk;
-    copy_bytes(&seed[0..at_pk], &mut sk[0..at_pk]);
-    copy_bytes(pk, &mut sk[at_pk..at_s]);
-    bytes_of(s, &mut sk[at_s..at_pkh]);
-    hash(p, pk, &mut sk[at_pkh..end]);
+    let (random, rest) = sk.split_at_mut(set.p.secret);
+    let (public, rest) = rest.split_at_mut(set.p.pk);
+    let (matrix, pkh) = rest.split_at_mut(16 * set.p.n);
+    random.copy_from_slice(&seed[0..set.p.secret]);
+    public.copy_from_slice(pk);
+    bytes_of(s, matrix);
+    hash(set, &[pk], pkh);
 }
 
+// Stays: noise and work are two parameters, as the steps below take them; crates/keys says where a struct of both stopped.
 // Both keys of the seed, which is zeroed, as are both scratches up to the set's lengths.
 pub fn generate(
-    p: Params,
+    set: Set,
     seed: &mut [u8],
     pk: &mut [u8],
     sk: &mut [u8],
     noise: &mut [u16],
     work: &mut [u16],
 )
-    requires { KeypairSized p (length seed.old) (length pk.old) (length sk.old) (length noise.old) (length work.old) }
-    ensures { KeypairMade p seed.old noise.old work.old
+    requires { KeypairSized set.p (length seed.old) (length pk.old) (length sk.old) (length noise.old) (length work.old) }
+    ensures { KeypairMade set.p seed.old noise.old work.old
         seed.new pk.new sk.new noise.new work.new }
 {
-    let m = 8 * p.n;
-    public_key(p, seed, pk, noise, work);
-    secret_key(p, seed, pk, &noise[0..m], sk);
-    zero_bytes(seed);
-    zero_words(noise, p.noise);
-    zero_words(work, p.work);
+    let m = 8 * set.p.n;
+    public_key(set, seed, pk, noise, work);
+    secret_key(set, seed, pk, &noise[0..m], sk);
+    seed.fill(0);
+    noise[..set.p.noise].fill(0);
+    work[..set.p.work].fill(0);
 }

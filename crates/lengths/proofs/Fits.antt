@@ -6,16 +6,17 @@ use Prim.Native.Nat.{ℕ, ◌≤◌}
 use borrow.Author.Tests.{eq-eqb, le-leb}
 use lib.Dec.{eqb, leb}
 use Rattle.sets.specs.declared.Params.{Params}
-use Rattle.sets.specs.declared.Answer.{Answer}
-use Rattle.sets.specs.declared.Answer.TheVariants.{Done, SeedLength, PublicKeyLength, SecretKeyLength, CiphertextLength, MessageLength, SaltLength, SharedSecretLength, ScratchLength}
+use Rattle.sets.specs.Answers.{Answer, Done}
+use Rattle.sets.specs.declared.Refusal.{Refusal}
+use Rattle.sets.specs.declared.Refusal.TheVariants.{SeedLength, PublicKeyLength, SecretKeyLength, CiphertextLength, MessageLength, SaltLength, SharedSecretLength, ScratchLength}
 use Rattle.lengths.specs.Refusals.{unless, scratch_test, keypair_test, encaps_test, decaps_test, decaps_secret_test, margin_test}
 use Rattle.lengths.specs.Sized.{Scratch, KeypairSized, EncapsSized, DecapsSized, DecapsSecretSized, MarginSized}
 
 -- a test that holds leaves it to the later ones
-pub holds : (a : Answer) (b : Bool) (later : Answer) → b ≡ true → later ≡ Done → unless a b later ≡ Done
+pub holds : (a : Refusal) (b : Bool) (later : Answer) → b ≡ true → later ≡ Done → unless a b later ≡ Done
 holds a b later e l = ap (λ (t : Bool). unless a t later) e ∙ l
 
-equal : (a : Answer) (x y : ℕ) (later : Answer) → x ≡ y → later ≡ Done → unless a (eqb x y) later ≡ Done
+equal : (a : Refusal) (x y : ℕ) (later : Answer) → x ≡ y → later ≡ Done → unless a (eqb x y) later ≡ Done
 equal a x y later e l = holds a (eqb x y) later (eq-eqb x y e) l
 
 within : (x y : ℕ) (later : Answer) → x ≤ y → later ≡ Done → unless ScratchLength (leb x y) later ≡ Done

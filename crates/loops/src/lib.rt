@@ -14,9 +14,9 @@ pub fn dots(n: usize, e: &[u16], a: &[u16], s: &[u16]) -> [u16; 8]
     ensures { result ≡ residues 65536 (table 1 8 (mul n (mat n a.now) (mat_t n s.now) ⊕ mat 8 e.now)) }
 {
     let mut sums = load8(e, 0);
-    for j in 0..n {
+    for (j, x) in a.iter().enumerate() {
         let y = column8(s, n, j);
-        let next = mac8(sums, a[j], y);
+        let next = mac8(sums, *x, y);
         sums = next;
     }
     sums
@@ -28,9 +28,9 @@ pub fn fold(n: usize, e: &[u16], a: &[u16], b: &[u16]) -> [u16; 8]
     ensures { result ≡ residues 65536 (table 1 8 (mul n (mat n a.now) (mat 8 b.now) ⊕ mat 8 e.now)) }
 {
     let mut sums = load8(e, 0);
-    for j in 0..n {
+    for (j, x) in a.iter().enumerate() {
         let y = load8(b, j * 8);
-        let next = mac8(sums, a[j], y);
+        let next = mac8(sums, *x, y);
         sums = next;
     }
     sums
@@ -41,8 +41,8 @@ fn add_times(out: &mut [u16], x: u16, row: &[u16])
     requires { length out.old ≡ length row.now }
     ensures { out.new ≡ residues 65536 (tab (length row.now) (λ j. get_or out.old j 0 + x * get_or row.now j 0)) }
 {
-    for j in 0..row.len() {
-        out[j] = mac(out[j], x, row[j]);
+    for (j, word) in out.iter_mut().enumerate() {
+        *word = mac(*word, x, row[j]);
     }
 }
 
@@ -51,6 +51,7 @@ pub fn add_row(n: usize, out: &mut [u16], s: &[u16], row: &[u16], k: usize)
     requires { (length out.old ≡ 8 * n) × (length s.now ≡ 8 * n) × (length row.now ≡ n) × (k < n) }
     ensures { out.new ≡ residues 65536 (table 8 n (mat n out.old ⊕ (λ i j. mat n s.now i k * get_or row.now j 0))) }
 {
+    // Stays: of rows that are written through `chunks_exact_mut` a proof knows the length alone, so each row of out is lent by its bounds.
     for i in 0..8 {
         let base = i * n;
         let end = base + n;

@@ -5,7 +5,7 @@ use mathlib.Core.List.{List, ◌∷◌, ◌++◌, append_assoc}
 use Prim.Native.Nat.{ℕ, ◌+◌, ◌*◌, ◌-◌, ◌≤◌}
 use native.Mathlib.Omega.{arith}
 use lib.ListN.{length, take, drop, length-drop, take-append-drop}
-use lib.Seq.{take_at, drop_at, drop-drop, take_all, take-append-le, length-take-le}
+use lib.Seq.{take_at, drop_at, drop-drop, take-append-le, length-take-le}
 use borrow.Rule.Slice.PartMut.{put_mid}
 use Rattle.lists.proofs.Spans.{length_mid, parts_whole, drop_front}
 use Rattle.sets.specs.Sets.{Valid}
@@ -27,13 +27,6 @@ use Rattle.margin.proofs.Places.{front, Row, first_is, second_is, rest_is, lent_
 -- ---- the key's noise and pkh
 
 module _ (p : Params) (seed noise work : List ℕ) (sized : MatrixSized p (length seed) (length noise) (length work)) where
-  -- 16 bytes over z are seedA
-  pub is_seed_a : {a : List ℕ} {k : ℕ} → k ≡ 16 → a ≡ hash p (take (p.seed - (p.secret + p.seedse)) (drop (p.secret + p.seedse) seed)) k → a ≡ key_seed_a p seed
-  unfolding key_seed_a
-  is_seed_a q e =
-      let z = p.secret + p.seedse in
-      e ∙ ap₂ (hash p) (take_all (p.seed - z) (drop z seed) (omega (arith, length-drop z seed, sized.seed_long))) q
-
   -- the hash of seedA and B packed is pkh
   pub key_made : {a pkh' noise' work' : List ℕ} {k : ℕ} → a ≡ key_seed_a p seed → MatrixMade p seed noise work noise' work' → k ≡ p.secret
       → pkh' ≡ hash p (a ++ packed p.d (take (8 * p.n - 0) work')) k → KeyMade p seed noise work pkh' noise' work'

@@ -26,27 +26,9 @@ use Rattle.ratio.specs.Answered.{Measured}
 use Rattle.ratio.specs.declared.Margin.{Margin}
 use Rattle.margin.specs.Made.{BothMade, sealing_part, key_part, NoiseMade, MarginMade}
 use Rattle.lists.proofs.Filled.{drop_later}
-use Rattle.margin.proofs.Places.{front, behind, Row, first_is, second_is}
+use Rattle.margin.proofs.Places.{Row, first_is, second_is}
 
 -- ---- the products and their difference
-
-module _ (p : Params) (valid : Valid p) where
-  -- S'E + E'', from the parts that are lent
-  pub sealing_product_is : (noise : List ℕ) {v : List ℕ}
-      → v ≡ residues p.q (table 8 8 (mul p.n (mat p.n (take (8 * p.n - 0) noise)) (mat 8 (take (16 * p.n - 8 * p.n) (drop (8 * p.n) noise))) ⊕ mat 8 (take (p.noise - 16 * p.n) (drop (16 * p.n) noise))))
-      → v ≡ residues p.q (table 8 8 (sealing_part p noise))
-  sealing_product_is noise e =
-      let n = p.n in
-      let last : p.noise - 16 * n ≡ 64 = omega (arith, valid.noise_is) in
-      e ∙ (λ i. residues p.q (table 8 8 (mul n (mat n (take (front (8 * n) i) noise)) (mat 8 (take (behind n i) (drop (8 * n) noise))) ⊕ mat 8 (take (last i) (drop (16 * n) noise)))))
-
-  -- E'S, from the parts that are lent
-  pub key_product_is : (work : List ℕ) {w : List ℕ}
-      → w ≡ residues p.q (table 8 8 (mul p.n (mat p.n (take (16 * p.n - 8 * p.n) (drop (8 * p.n) work))) (mat_t p.n (take (8 * p.n - 0) work))))
-      → w ≡ residues p.q (table 8 8 (key_part p work))
-  key_product_is work e =
-      let n = p.n in
-      e ∙ (λ i. residues p.q (table 8 8 (mul n (mat n (take (behind n i) (drop (8 * n) work))) (mat_t n (take (front (8 * n) i) work)))))
 
 module _ (p : Params) (valid : Valid p) (noise work : List ℕ) (scratch : Scratch p (length noise) (length work)) where
   abbrev gap : ℕ

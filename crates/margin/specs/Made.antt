@@ -12,13 +12,13 @@ use Rattle.scheme.specs.Parts.{pkh_of}
 use Rattle.scheme.specs.KeyGen.{key_noise, key_s, key_e, public_key}
 use Rattle.scheme.specs.Encaps.{enc_s, enc_e, enc_e2}
 use Rattle.scheme.specs.Margin.{margin_size, kept}
-use Rattle.ratio.specs.Answered.{done_margin}
+use Rattle.ratio.specs.Answered.{measured_margin}
 use Rattle.ratio.specs.declared.Margin.{Margin}
 
 -- ---- the call
 
 pub record MarginMade (p : Params) (seed msg salt noise work : List ℕ) (r : Margin) (noise' work' : List ℕ) : Type 0 where
-  pub is : r ≡ done_margin (margin_size p seed msg salt) (half p.q p.b) (kept p seed msg salt)
+  pub is : r ≡ measured_margin (margin_size p seed msg salt) (half p.q p.b) (kept p seed msg salt)
   pub exact : HasValue r.ratio false (margin_size p seed msg salt) (half p.q p.b)
   pub noise_is : noise' ≡ wiped p.noise noise
   pub work_is : work' ≡ wiped p.work work

@@ -2,3 +2,4 @@
 pub mod Steps
 pub mod RoundTrip
 pub mod Codes
+pub mod Coded

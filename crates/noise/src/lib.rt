@@ -1,7 +1,9 @@
 // Sampling of noise (docs/RULES.md, 4.5): a word of random bits becomes a signed number, by the set's table. No word is branched on.
 #![tactic(auto)]
 
-ghost use Rattle.std.specs.Prelude.{◌≡◌, ◌≤◌, ◌<◌, ltb, nat_abs, length};
+ghost use Rattle.std.specs.Prelude.{◌≡◌, ◌-◌, ◌≤◌, ◌<◌, ltb, nat_abs, length};
+ghost use Rattle.sets.specs.declared.Chi.{Chi};
+ghost use Rattle.sets.specs.declared.Chi.TheVariants.{Frodo640, Frodo976, Frodo1344};
 ghost use Rattle.noise.specs.Noise.{one, signed, sampled, table_of, largest_of};
 
 use sets::Chi;
@@ -17,6 +19,7 @@ const FRODO976: [u16; 11] = [
 const FRODO1344: [u16; 7] = [9142, 23462, 30338, 32361, 32725, 32765, 32767];
 
 // 1 where an entry is below t, else 0.
+// Stays: a carry and no `entry < t`, and two products below and no `if`, since no word is branched on.
 fn below(entry: u16, t: u16) -> u16
     ensures { (result ≡ one (ltb entry t)) × (result ≤ 1) }
 {
@@ -34,19 +37,57 @@ fn with_sign(odd: u16, size: u16) -> i16
     plus as i16 - minus as i16
 }
 
-// The noise of one word, by a table.
+// The noise of one word, by a table, and how large it can be.
 fn sample_word(table: &[u16], r: u16) -> i16
     requires { (0 < length table.now) × (length table.now ≤ 16) }
-    ensures { result ≡ sampled table.now r }
+    ensures { (result ≡ sampled table.now r) × (nat_abs result ≤ length table.now - 1) }
 {
     let t = r / 2;
-    let n = table.len();
-    let counted = n - 1;
+    let counted = table.len() - 1;
     let mut size: u16 = 0;
-    for i in 0..counted {
-        size += below(table[i], t);
+    for &entry in &table[..counted] {
+        size += below(entry, t);
     }
     with_sign(r % 2, size)
+}
+
+// A distribution as a type, so that code over it is compiled for its table alone.
+pub trait Distribution {
+    ghost chi: { Chi };
+
+    // The noise of one word, by the distribution's table, and how large it can be.
+    fn sample(r: u16) -> i16
+        ensures { (result ≡ sampled (table_of chi) r) × (nat_abs result ≤ largest_of chi) };
+}
+
+pub struct Noise640;
+
+impl Distribution for Noise640 {
+    ghost chi = { Frodo640 };
+
+    fn sample(r: u16) -> i16 {
+        sample_word(&FRODO640, r)
+    }
+}
+
+pub struct Noise976;
+
+impl Distribution for Noise976 {
+    ghost chi = { Frodo976 };
+
+    fn sample(r: u16) -> i16 {
+        sample_word(&FRODO976, r)
+    }
+}
+
+pub struct Noise1344;
+
+impl Distribution for Noise1344 {
+    ghost chi = { Frodo1344 };
+
+    fn sample(r: u16) -> i16 {
+        sample_word(&FRODO1344, r)
+    }
 }
 
 // The noise of one word, by the table of a distribution, and how large it can be.
@@ -54,8 +95,8 @@ pub fn sample(chi: Chi, r: u16) -> i16
     ensures { (result ≡ sampled (table_of chi) r) × (nat_abs result ≤ largest_of chi) }
 {
     match chi {
-        Chi::Frodo640 => sample_word(&FRODO640, r),
-        Chi::Frodo976 => sample_word(&FRODO976, r),
-        Chi::Frodo1344 => sample_word(&FRODO1344, r),
+        Chi::Frodo640 => Noise640::sample(r),
+        Chi::Frodo976 => Noise976::sample(r),
+        Chi::Frodo1344 => Noise1344::sample(r),
     }
 }

@@ -3,14 +3,14 @@
 use mathlib.Core.Path.{◌≡◌, refl, sym, ap, ap₂, ◌∙◌}
 use mathlib.Core.Bool.{Bool, true, false, ◌&&◌, cond}
 use mathlib.Core.List.{List, [], ◌∷◌}
-use Prim.Native.Nat.{ℕ, zero, suc, ◌+◌, ◌*◌, ◌-◌, ◌/◌, ◌≤◌, ◌<◌}
-use native.Mathlib.Numerals.{add-one}
+use mathlib.Core.Logic.{◌⊎◌, inl, inr}
+use Prim.Native.Nat.{ℕ, zero, suc, ◌*◌, ◌-◌, ◌≤◌, ◌<◌}
 use native.Mathlib.Omega.{arith}
 use lib.Bits.{bit_and, bit_or, bit_xor, and_le_l, and_le_r, or_add_and, xor_add_and, and_mask, and_zero_r, or_zero_l, or_zero_r, xor_self}
 use lib.Dec.{eqb}
-use lib.ListN.{length, take, get_or}
+use lib.ListN.{length, get_or}
 use native.Mathlib.Nat.{mod-eq_of_lt}
-use borrow.Author.Tests.{eqb-true, eq-eqb, ne_eqb}
+use borrow.Author.Tests.{eqb-true, eq-eqb}
 use Rattle.lists.specs.Lists.{equal}
 use Rattle.lists.proofs.Tables.{both_true}
 use Rattle.lists.proofs.Loops.{Upto, copied_all}
@@ -64,36 +64,33 @@ gathers g x y = same_test (eqb (bit_or g (bit_xor x y)) 0) (eqb g 0 && eqb x y) 
         eq-eqb (bit_or g (bit_xor x y)) 0
         (ap₂ bit_or (eqb-true g 0 b.0) (ap (bit_xor x) (sym (eqb-true x y b.1)) ∙ xor_self x) ∙ or_zero_l 0)
 
--- a test that holds may be left out
-and_true : (t : Bool) → (t && true) ≡ t
-and_true true = refl
-and_true false = refl
-
 -- three tests, however they are joined
 and_assoc : (r s t : Bool) → (r && (s && t)) ≡ ((r && s) && t)
 and_assoc true s t = refl
 and_assoc false s t = refl
 
-equal_suc : (a b : List ℕ) (i : ℕ) → i < length a → i < length b
-    → equal (take (suc i) a) (take (suc i) b) ≡ (equal (take i a) (take i b) && eqb (get_or a i 0) (get_or b i 0))
+-- a test that holds may be left out
+and_true : (t : Bool) → (t && true) ≡ t
+and_true true = refl
+and_true false = refl
+
+-- the next words are compared, and what is left of both lists
+pub compared_next : (g r : ℕ) (t : Bool) (x y : ℕ) {a b a' b' : List ℕ} → a ≡ x ∷ a' → b ≡ y ∷ b' → eqb r 0 ≡ (eqb g 0 && eqb x y)
+    → (length a ≡ length b) × (t ≡ (eqb g 0 && equal a b)) → (length a' ≡ length b') × (t ≡ (eqb r 0 && equal a' b'))
 unfolding equal
-equal_suc [] b i ha hb = absurd (omega arith)
-equal_suc (x ∷ a) [] i ha hb = absurd (omega arith)
-equal_suc (x ∷ a) (y ∷ b) zero ha hb = and_true (eqb x y)
-equal_suc (x ∷ a) (y ∷ b) (suc i) ha hb =
-    ap (λ (t : Bool). eqb x y && t) (equal_suc a b i (omega arith) (omega arith)) ∙ and_assoc (eqb x y) (equal (take i a) (take i b)) (eqb (get_or a i 0) (get_or b i 0))
+compared_next g r t x y {a' = a'} {b'} ea eb er (long, is) = (
+  omega (arith, ap length ea, ap length eb, long),
+  is ∙ ap₂ (λ (l m : List ℕ). eqb g 0 && equal l m) ea eb ∙ and_assoc (eqb g 0) (eqb x y) (equal a' b') ∙ ap (λ (s : Bool). s && equal a' b') (sym er),
+)
 
--- the first i + 1 elements are equal where the first i are and the next
-pub equal_next : (a b : List ℕ) (i : ℕ) → i < length a → i < length b
-    → equal (take (i + 1) a) (take (i + 1) b) ≡ (equal (take i a) (take i b) && eqb (get_or a i 0) (get_or b i 0))
-equal_next a b i ha hb = rw add-one (equal_suc a b i ha hb)
-
--- a word is 0 exactly where 65535 does not carry it past 16 bits
-pub carries : (x : ℕ) → x < 65536 → 1 - (x + 65535) / 65536 ≡ bit (eqb x 0)
-carries zero h = refl
-carries (suc x) h =
-    let e : 1 - (suc x + 65535) / 65536 ≡ 0 = omega arith in
-    e ∙ sym (ap bit (ne_eqb (suc x) 0 (λ z. omega arith)))
+-- where nothing is left of one, nothing is of the other
+pub compared_all : (g : ℕ) (t : Bool) (a b : List ℕ) → (a ≡ []) ⊎ (b ≡ []) → (length a ≡ length b) × (t ≡ (eqb g 0 && equal a b)) → eqb g 0 ≡ t
+unfolding equal
+compared_all g t [] [] none (long, is) = sym (is ∙ and_true (eqb g 0))
+compared_all g t [] (y ∷ b) none (long, is) = absurd (omega (arith, long))
+compared_all g t (x ∷ a) [] none (long, is) = absurd (omega (arith, long))
+compared_all g t (x ∷ a) (y ∷ b) (inl e) (long, is) = absurd (omega (arith, ap length e))
+compared_all g t (x ∷ a) (y ∷ b) (inr e) (long, is) = absurd (omega (arith, ap length e))
 
 -- ---- the choice
 

@@ -1,14 +1,11 @@
--- What opening a ciphertext asks of its lengths (docs/RULES.md, 2.1), and a choice as a number.
+-- What opening a ciphertext asks of lengths besides the ciphertext's own (docs/RULES.md, 2.1), and a choice as a number.
 -- Assumes nothing.
 use Rattle.std.specs.Prelude.{◌≡◌, Bool, cond, ℕ, ◌+◌, ◌*◌}
-use Rattle.sets.specs.Sets.{Valid}
 use Rattle.sets.specs.declared.Params.{Params}
 
--- a secret key, a ciphertext and a part of the noise scratch
-pub record OpenSized (p : Params) (sk ct noise : ℕ) : Type 0 where
-  pub valid : Valid p
+-- a secret key and a part of the noise scratch
+pub record OpenSized (p : Params) (sk noise : ℕ) : Type 0 where
   pub sk_long : sk ≡ p.sk
-  pub ct_long : ct ≡ p.ct
   pub noise_long : noise ≡ 16 * p.n + 64
 
 -- 1 where it holds, and 0 where not

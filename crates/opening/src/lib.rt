@@ -6,62 +6,61 @@ ghost use Rattle.std.specs.Prelude.{◌≡◌, ◌&&◌, cond, ◌++◌, ◌*◌
 ghost use Rattle.lists.specs.Lists.{equal};
 ghost use Rattle.algebra.specs.Congruence.{minus};
 ghost use Rattle.algebra.specs.Matrix.{mat, mat_t, mul, table};
-ghost use Rattle.sets.specs.Sets.{Valid};
 ghost use Rattle.message.specs.Message.{decoded};
 ghost use Rattle.scheme.specs.Decaps.{sk_matrix_s, ct_b, ct_c, decaps_message};
 ghost use Rattle.opening.specs.Opening.{OpenSized, bit};
 
-use ciphertext::{c1_of, c2_of};
+use ciphertext::CiphertextRef;
 use codec::unpack;
 use message::decode_message;
 use products::{mul_bs, sub};
-use sets::Params;
+use sets::Set;
 use words::words_of;
 
 // ---- the message
 
 // S of the secret key, then B' and C of the ciphertext, in words.
-fn open_parts(p: Params, sk: &[u8], ct: &[u8], noise: &mut [u16])
-    requires { OpenSized p (length sk.now) (length ct.now) (length noise.old) }
-    ensures { noise.new ≡ sk_matrix_s p sk.now ++ (ct_b p ct.now ++ ct_c p ct.now) }
+fn open_parts(sk: &[u8], ct: CiphertextRef<'_>, noise: &mut [u16])
+    requires { OpenSized ct.set.p (length sk.now) (length noise.old) }
+    ensures { noise.new ≡ sk_matrix_s ct.entry.set.p sk.now ++ (ct_b ct.entry.set.p ct.entry.bytes.now ++ ct_c ct.entry.set.p ct.entry.bytes.now) }
 {
-    let from = p.secret + p.pk;
-    let to = from + 16 * p.n;
-    let m = 8 * p.n;
-    let e = 16 * p.n;
-    let f = e + 64;
-    words_of(&sk[from..to], &mut noise[0..m]);
-    unpack(p.d, c1_of(p, ct), &mut noise[m..e]);
-    unpack(p.d, c2_of(p, ct), &mut noise[e..f]);
+    let set = ct.set;
+    let from = set.p.secret + set.p.pk;
+    let to = from + 16 * set.p.n;
+    let (s, rest) = noise.split_at_mut(8 * set.p.n);
+    let (b, c) = rest.split_at_mut(8 * set.p.n);
+    words_of(&sk[from..to], s);
+    unpack(set.p.d, ct.c1(), b);
+    unpack(set.p.d, ct.c2(), c);
 }
 
 // The message in C - B'*S.
-fn decode_difference(p: Params, b: &[u16], s: &[u16], c: &[u16], msg: &mut [u8], work: &mut [u16])
-    requires { Valid p × (length b.now ≡ 8 * p.n) × (length s.now ≡ 8 * p.n) × (length c.now ≡ 64) × (length msg.old ≡ 8 * p.b) × (length work.old ≡ 64) }
-    ensures { msg.new ≡ decoded p.q p.b (table 8 8 (λ i j. minus p.q (mat 8 c.now i j) (mul p.n (mat p.n b.now) (mat_t p.n s.now) i j))) }
+fn decode_difference(set: Set, b: &[u16], s: &[u16], c: &[u16], msg: &mut [u8], work: &mut [u16])
+    requires { (length b.now ≡ 8 * set.p.n) × (length s.now ≡ 8 * set.p.n) × (length c.now ≡ 64) × (length msg.old ≡ 8 * set.p.b) × (length work.old ≡ 64) }
+    ensures { msg.new ≡ decoded set.p.q set.p.b (table 8 8 (λ i j. minus set.p.q (mat 8 c.now i j) (mul set.p.n (mat set.p.n b.now) (mat_t set.p.n s.now) i j))) }
 {
-    mul_bs(p, b, s, work);
-    sub(p, c, work);
-    decode_message(p.q, p.b, work, msg);
+    mul_bs(set, b, s, work);
+    sub(set, c, work);
+    decode_message(set.p.q, set.p.b, work, msg);
 }
 
+// Stays: noise and work are two parameters; a struct of both was tried in crates/keys: the borrow checker does not cover a call that is lent parts of both fields.
 // The message that the ciphertext opens to. noise takes S, B' and C, work the product.
 pub fn open_message(
-    p: Params,
     sk: &[u8],
-    ct: &[u8],
+    ct: CiphertextRef<'_>,
     msg: &mut [u8],
     noise: &mut [u16],
     work: &mut [u16],
 )
-    requires { OpenSized p (length sk.now) (length ct.now) (length noise.old) × (length msg.old ≡ p.secret) × (length work.old ≡ 64) }
-    ensures { msg.new ≡ decaps_message p sk.now ct.now }
+    requires { OpenSized ct.set.p (length sk.now) (length noise.old) × (length msg.old ≡ ct.set.p.secret) × (length work.old ≡ 64) }
+    ensures { msg.new ≡ decaps_message ct.entry.set.p sk.now ct.entry.bytes.now }
 {
-    let m = 8 * p.n;
-    let e = 16 * p.n;
-    let f = e + 64;
-    open_parts(p, sk, ct, noise);
-    decode_difference(p, &noise[m..e], &noise[0..m], &noise[e..f], msg, work);
+    let set = ct.set;
+    open_parts(sk, ct, noise);
+    let (s, rest) = noise.split_at(8 * set.p.n);
+    let (b, c) = rest.split_at(8 * set.p.n);
+    decode_difference(set, b, s, c, msg, work);
 }
 
 // ---- the comparison
@@ -79,8 +78,8 @@ fn differences(a: &[u16], b: &[u16]) -> u16
     ensures { eqb result 0 ≡ equal a.now b.now }
 {
     let mut gathered: u16 = 0;
-    for i in 0..a.len() {
-        gathered = gather(gathered, a[i], b[i]);
+    for (x, y) in a.iter().zip(b) {
+        gathered = gather(gathered, *x, *y);
     }
     gathered
 }
@@ -102,6 +101,7 @@ pub fn ct_verify(a: &[u16], b: &[u16]) -> u8
 
 // ---- the choice
 
+// Stays: a choice is a number, 1 or 0, and not a bool, by the rule of docs/RULES.md, 8.11: its text has no branch.
 // x where choice is 1, y where it is 0.
 fn select(choice: u8, x: u8, y: u8) -> u8
     requires { choice ≤ 1 }
@@ -116,7 +116,7 @@ pub fn ct_select(choice: u8, a: &[u8], b: &[u8], out: &mut [u8])
     requires { (choice ≤ 1) × (length a.now ≡ length out.old) × (length b.now ≡ length out.old) }
     ensures { out.new ≡ cond (eqb choice 1) a.now b.now }
 {
-    for i in 0..out.len() {
-        out[i] = select(choice, a[i], b[i]);
+    for (i, x) in out.iter_mut().enumerate() {
+        *x = select(choice, a[i], b[i]);
     }
 }

@@ -1,14 +1,13 @@
 -- A sponge that takes packed words eight at a time takes the packing of all of them (docs/RULES.md, 4.3).
 -- Assumes nothing.
-use mathlib.Core.Path.{◌≡◌, refl, sym, ap, ◌∙◌, subst}
+use mathlib.Core.Path.{◌≡◌, refl, sym, ap, ap₂, ◌∙◌}
 use mathlib.Core.List.{List, [], ◌∷◌, ◌++◌}
 use mathlib.Core.Logic.{◌⊎◌}
-use Prim.Native.Nat.{ℕ, ◌+◌, ◌-◌, ◌*◌, ◌≤◌}
-use native.Mathlib.Nat.{add-sub_cancel_left, mul_comm, mul-one, mul-zero, suc-ne-zero}
+use Prim.Native.Nat.{ℕ, ◌+◌, ◌*◌, ◌/◌, ◌<◌}
+use native.Mathlib.Nat.{mul_comm, mul-one, mul-zero, suc-ne-zero}
 use native.Mathlib.Omega.{arith}
 use lib.ListN.{length, take, drop}
-use lib.Seq.{take_at, take-add, length-take-le}
-use Rattle.lists.proofs.Spans.{length_part}
+use lib.Seq.{take-add, length-take-le}
 use Rattle.shake.specs.Sponge.{absorb_bytes, finished, squeezed}
 use Rattle.shake.specs.declared.Sponge.{Sponge}
 use Rattle.shake.proofs.Absorb.{absorb_append}
@@ -37,17 +36,17 @@ unfolding absorb_bytes
 took_none d ws s = record { is = sym (ap (absorb_bytes s) (packed_none d)) }
 
 -- eight more are taken
-pub took_eight : {d k : ℕ} {ws : List ℕ} {s t u : Sponge} → Took d k ws s t → 8 * k + 8 ≤ length ws
-    → u ≡ absorb_bytes t (packed d (take (8 * k + 8 - 8 * k) (drop (8 * k) ws))) → Took d (k + 1) ws s u
-took_eight {d} {k} {ws} {s} took room e =
-    let eight : 8 * k + 8 - 8 * k ≡ 8 = add-sub_cancel_left (8 * k) 8 in
+pub took_eight : {d k : ℕ} {ws eight : List ℕ} {s t u : Sponge} → Took d k ws s t → k < length ws / 8 → eight ≡ take 8 (drop (8 * k) ws)
+    → u ≡ absorb_bytes t (packed d eight) → Took d (k + 1) ws s u
+took_eight {d} {k} {ws} {s = s} took room is e =
     let next : 8 * k + 8 ≡ 8 * (k + 1) = omega arith in
-    let joined : packed d (take (8 * k) ws) ++ packed d (take (8 * k + 8 - 8 * k) (drop (8 * k) ws)) ≡ packed d (take (8 * (k + 1)) ws) =
-    ap (λ (n : ℕ). packed d (take (8 * k) ws) ++ packed d (take n (drop (8 * k) ws))) eight
-    ∙ sym ((packs d 8 d (mul_comm 8 d)).joins k (take (8 * k) ws) (take 8 (drop (8 * k) ws)) (length-take-le (8 * k) ws (omega arith)))
+    let part = packed d (take 8 (drop (8 * k) ws)) in
+    let joined : packed d (take (8 * k) ws) ++ part ≡ packed d (take (8 * (k + 1)) ws) =
+    sym ((packs d 8 d (mul_comm 8 d)).joins k (take (8 * k) ws) (take 8 (drop (8 * k) ws)) (length-take-le (8 * k) ws (omega arith)))
     ∙ ap (packed d) (sym (take-add (8 * k) 8 ws) ∙ ap (λ (n : ℕ). take n ws) next) in
-    let part = packed d (take (8 * k + 8 - 8 * k) (drop (8 * k) ws)) in
-    record { is = e ∙ ap (λ (p : Sponge). absorb_bytes p part) took.is ∙ sym (absorb_append s (packed d (take (8 * k) ws)) part) ∙ ap (absorb_bytes s) joined }
+    record {
+      is = e ∙ ap₂ (λ (p : Sponge) (x : List ℕ). absorb_bytes p (packed d x)) took.is is ∙ sym (absorb_append s (packed d (take (8 * k) ws)) part) ∙ ap (absorb_bytes s) joined;
+    }
 
 -- a sponge that had absorbed xs has absorbed those words, packed, behind
 pub absorbed_words : {r d k : ℕ} {xs ws : List ℕ} {s t : Sponge} → Absorbed r xs s → Took d k ws s t → Absorbed r (xs ++ packed d (take (8 * k) ws)) t
@@ -59,20 +58,5 @@ unfolding hash
 hashed p l a f = shakes l a f
 
 -- what packing asks of eight words
-pub eight_pack : (d k : ℕ) (ws : List ℕ) → (d ≡ 15) ⊎ (d ≡ 16) → 8 * k + 8 ≤ length ws → Packing d (length (take (8 * k + 8 - 8 * k) (drop (8 * k) ws))) d
-eight_pack d k ws width room = record { width = width; count = 1; words = length_part (8 * k) 8 ws room; bytes = sym (mul-one d) }
-
--- ---- a front of d bytes that is lent
-
-module _ (d : ℕ) (bytes : List ℕ) (room : d ≤ length bytes) where
-  -- it has d bytes
-  front_long : length (take (d - 0) bytes) ≡ d
-  front_long = length-take-le (d - 0) bytes (omega arith) ∙ omega arith
-
-  -- as packing asks
-  pub front_pack : (ws : List ℕ) → Packing d (length ws) d → Packing d (length ws) (length (take (d - 0) bytes))
-  front_pack ws k = subst (λ (b : ℕ). Packing d (length ws) b) (sym front_long) k
-
-  -- and what was written there is read again
-  pub front_back : {ys : List ℕ} → length ys ≡ length (take (d - 0) bytes) → take (d - 0) (ys ++ drop (d - 0) bytes) ≡ ys
-  front_back {ys} q = take_at ys (drop (d - 0) bytes) (d - 0) (q ∙ length-take-le (d - 0) bytes (omega arith))
+pub eight_pack : (d : ℕ) (eight : List ℕ) → (d ≡ 15) ⊎ (d ≡ 16) → length eight ≡ 8 → Packing d (length eight) d
+eight_pack d eight width long = record { width = width; count = 1; words = long; bytes = sym (mul-one d) }

@@ -3,13 +3,12 @@
 
 ghost use Rattle.std.specs.Prelude.{◌≡◌, ◌++◌, ◌*◌, ◌≤◌, length};
 ghost use Rattle.shake.specs.Sponge.{absorb_bytes, Ready};
-ghost use Rattle.sets.specs.Sets.{Valid};
 ghost use Rattle.codec.specs.Pack.{packed};
 ghost use Rattle.codec.specs.Packing.{Packing};
 ghost use Rattle.scheme.specs.Parts.{hash};
 
 use codec::pack;
-use sets::Params;
+use sets::Set;
 use shake::Sponge;
 
 // The sponge takes eight words of d bits, packed; `bytes` is room for them.
@@ -22,19 +21,17 @@ fn absorb_eight(d: usize, sponge: Sponge, words: &[u16], bytes: &mut [u8]) -> Sp
 }
 
 // `out` is filled with the hash of seedA and B packed.
-pub fn pkh_of(p: Params, seed: &[u8], b: &[u16], out: &mut [u8])
-    requires { Valid p × (length b.now ≡ 8 * p.n) }
-    ensures { out.new ≡ hash p (seed.now ++ packed p.d b.now) (length out.old) }
+pub fn pkh_of(set: Set, seed: &[u8], b: &[u16], out: &mut [u8])
+    requires { length b.now ≡ 8 * set.p.n }
+    ensures { out.new ≡ hash set.p (seed.now ++ packed set.p.d b.now) (length out.old) }
 {
-    let d = p.d;
-    let n = p.n;
+    let d = set.p.d;
     let mut bytes = [0u8; 16];
-    let sponge = Sponge::new(p.rate);
+    let sponge = Sponge::new(set.p.rate);
     let mut sponge = sponge.absorb(seed);
-    for k in 0..n {
-        let i = 8 * k;
-        let j = i + 8;
-        let more = absorb_eight(d, sponge, &b[i..j], &mut bytes);
+    let (eights, _) = b.as_chunks::<8>();
+    for eight in eights {
+        let more = absorb_eight(d, sponge, eight, &mut bytes);
         sponge = more;
     }
     let sponge = sponge.finish();

@@ -1,8 +1,8 @@
--- Laws of the results: words masked by q - 1, how many there are, and their bounds.
+-- Laws of the results: words taken mod q, how many there are, and their bounds.
 -- Assumes nothing.
-use mathlib.Core.Path.{◌≡◌, sym, ap, ◌∙◌}
+use mathlib.Core.Path.{◌≡◌, sym, ap, ap₂, ◌∙◌}
 use mathlib.Core.List.{List}
-use Prim.Native.Nat.{ℕ, ◌+◌, ◌*◌}
+use Prim.Native.Nat.{ℕ, ◌*◌}
 use native.Mathlib.Nat.{mul_comm}
 use lib.ListN.{length}
 use Rattle.lists.specs.Lists.{residues, Below}
@@ -13,15 +13,7 @@ use Rattle.algebra.proofs.Congruences.{words_mod, minus_lt}
 use Rattle.algebra.proofs.Tables.{length_kept, below_table}
 use Rattle.sets.specs.declared.Params.{Params}
 use Rattle.sets.specs.Sets.{Valid}
-use Rattle.words.specs.Words.{Mask}
-use Rattle.words.proofs.Masks.{mask_q}
 use Rattle.rows.proofs.Rows.{q_pos, bits_le}
-
--- words mod 2^16 that are masked by m are the numbers mod m + 1
-pub masked : {m : ℕ} → Mask m → (l : List ℕ) {v w : List ℕ} → v ≡ residues 65536 l → w ≡ residues (m + 1) v → w ≡ residues (m + 1) l
-masked {m} k l hv hw =
-    hw ∙ ap (residues (m + 1)) hv
-    ∙ ap (λ (q : ℕ). residues q (residues 65536 l)) (mask_q k) ∙ words_mod k.bits l k.small ∙ ap (λ (q : ℕ). residues q l) (sym (mask_q k))
 
 -- ---- for callers
 
@@ -34,6 +26,10 @@ module _ {p : Params} (v : Valid p) where
   pub words_low : (l : List ℕ) → residues p.q (residues 65536 l) ≡ residues p.q l
   words_low l =
       ap (λ (q : ℕ). residues q (residues 65536 l)) v.q_is ∙ words_mod p.d l (bits_le v) ∙ ap (λ (q : ℕ). residues q l) (sym v.q_is)
+
+  -- the same for words that are taken mod q by a modulus of the set
+  pub masked : {q : ℕ} → q ≡ p.q → (l : List ℕ) {u w : List ℕ} → u ≡ residues 65536 l → w ≡ residues q u → w ≡ residues p.q l
+  masked e l hu hw = hw ∙ ap₂ residues e hu ∙ words_low l
 
   -- words mod q are below q
   pub below_low : (l : List ℕ) → Below p.q (residues p.q l)

@@ -1,18 +1,15 @@
 // The margin's answer (docs/RULES.md, 4.11): the largest size of some words of noise, that size over h as an f64, and the verdict on each of the words (4.11.4).
 #![tactic(auto)]
 
-ghost use Rattle.std.specs.Prelude.{◌≡◌, ◌%◌, ◌<◌, max};
+ghost use Rattle.std.specs.Prelude.{◌≡◌, ◌%◌, ◌<◌};
 ghost use Rattle.lists.specs.Lists.{Below};
 ghost use Rattle.algebra.specs.Whole.{centred};
 ghost use Rattle.scheme.specs.Margin.{size_of, largest_size, in_range, kept_by};
 ghost use Rattle.ratio.specs.Ratio.{PowerOfTwo, Exact};
-ghost use Rattle.ratio.specs.Answered.{refused_margin, Measured};
-
-use sets::Answer;
+ghost use Rattle.ratio.specs.Answered.{Measured};
 
 #[derive(Clone, Copy)]
 pub struct Margin {
-    pub answer: Answer,
     pub size: u32,
     pub ratio: f64,
     pub kept: bool,
@@ -26,30 +23,13 @@ pub fn ratio(size: u32, h: u32) -> f64
     size as f64 / h as f64
 }
 
-// A margin that was refused.
-pub fn refused(answer: Answer) -> Margin
-    ensures { result ≡ refused_margin answer }
-{
-    Margin {
-        answer,
-        size: 0,
-        ratio: 0.0,
-        kept: false,
-    }
-}
-
 // The margin of a largest size and a verdict.
 pub fn measured(size: u32, h: u32, kept: bool) -> Margin
     requires { PowerOfTwo h }
     ensures { Measured size h kept result }
 {
     let ratio = ratio(size, h);
-    Margin {
-        answer: Answer::Done,
-        size,
-        ratio,
-        kept,
-    }
+    Margin { size, ratio, kept }
 }
 
 // How far the centred value of a word mod q is from 0.
@@ -61,20 +41,14 @@ fn size_of(q: u32, x: u16) -> u32
     if w < q / 2 { w } else { q - w }
 }
 
-fn larger(a: u32, b: u32) -> u32
-    ensures { result ≡ max a b }
-{
-    if a < b { b } else { a }
-}
-
 // The largest size of some words mod q.
 fn largest_size(q: u32, words: &[u16]) -> u32
     requires { (q % 2 ≡ 0) × Below q words.now }
     ensures { result ≡ largest_size q words.now }
 {
-    let mut size: u32 = 0;
-    for i in 0..words.len() {
-        size = larger(size, size_of(q, words[i]));
+    let mut size = 0;
+    for &x in words {
+        size = size.max(size_of(q, x));
     }
     size
 }
@@ -88,19 +62,19 @@ fn in_range(q: u32, h: u32, x: u16) -> bool
     if w < q / 2 { w < h } else { q - w <= h }
 }
 
-// Whether that is so of every word.
+// Whether that is so of every word. Each is read, whatever the others are: the noise is secret.
 fn all_in_range(q: u32, h: u32, words: &[u16]) -> bool
     requires { (q % 2 ≡ 0) × Below q words.now }
     ensures { result ≡ kept_by q h words.now }
 {
     let mut kept = true;
-    for i in 0..words.len() {
-        let here = in_range(q, h, words[i]);
-        kept = kept & here;
+    for &x in words {
+        kept &= in_range(q, h, x);
     }
     kept
 }
 
+// Stays: q and the words are two arguments and no struct that keeps them below q: it would be made here alone, for the two functions above, and this one would ask the same of its caller.
 // The margin of some words of noise mod q.
 pub fn margin_of(q: u32, h: u32, words: &[u16]) -> Margin
     requires { PowerOfTwo h × (q % 2 ≡ 0) × Below q words.now }

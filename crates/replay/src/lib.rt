@@ -2,92 +2,106 @@
 // A list that is malformed leads to answers that do not agree, and never out of bounds.
 #![tactic(auto)]
 
-ghost use Rattle.std.specs.Prelude.{◌≡◌, ◌+◌, ◌≤◌, ◌<◌, length, IfOk};
+ghost use Rattle.std.specs.Prelude.{◌≡◌, ◌==◌, ◌+◌, ◌≤◌, ◌<◌, true, length, get_or, min, slice_get, vec_len, IfOk};
+ghost use Rattle.std.specs.List.{slice_split};
+ghost use Rattle.std.specs.Option.{option_map};
+ghost use Rattle.shake.specs.Shake.{shake};
 
+use std::alloc::{AllocError, Global};
 use std::fs::File;
-use std::io;
 use std::io::Read;
 use std::rt::Files;
+use std::{fmt, io};
 
-// A part of a text.
+// The file of that name, as much of it as `most` bytes hold.
+pub fn read(rt: &impl Files, alloc: Global, path: &str, most: usize) -> io::Result<Vec<u8>>
+    ensures { IfOk result (λ text. vec_len text ≤ most) }
+{
+    let mut text = Vec::new(alloc);
+    File::open(rt, path)?
+        .take(most as u64)
+        .read_to_end(&mut text)?;
+    // the contract of `take` does not give its limit
+    text.truncate(most);
+    Ok(text)
+}
+
+// A line of a list, and its number there, from 1 on.
 #[derive(Clone, Copy)]
-pub struct Span {
-    pub start: usize,
-    pub end: usize,
+pub struct Line<'a> {
+    pub number: usize,
+    pub text: &'a [u8],
 }
 
-// The place of the first b at `from` or later, or the length where there is none.
-pub fn find(s: &[u8], from: usize, b: u8) -> usize
-    requires { from ≤ length s.now }
-    ensures { (from ≤ result) × (result ≤ length s.now) }
-{
-    let mut i = from;
-    while i < s.len() {
-        if s[i] == b {
-            return i;
+impl<'a> Line<'a> {
+    // Whether it says nothing to a program: it is empty, or begins with '#'.
+    pub fn is_comment(self) -> bool
+        ensures empty { length self.entry.text.now ≡ 0 → result ≡ true }
+        ensures marked { result ≡ true → 0 < length self.entry.text.now → get_or self.entry.text.now 0 0 ≡ 35 }
+    {
+        matches!(self.text, [] | [b'#', ..])
+    }
+
+    // Field k, where there are as many.
+    pub fn field(self, k: usize) -> Option<&'a [u8]>
+        ensures { option_map (λ f. f.now) result ≡ slice_get (slice_split (λ b. b == 32) self.entry.text.now) k }
+    {
+        self.text.split(|b| *b == b' ').nth(k)
+    }
+
+    // The line without its first field.
+    pub fn behind(self) -> Line<'a>
+        ensures { (length result.text.now ≤ length self.entry.text.now) × (result.number ≡ self.entry.number) }
+    {
+        let text = match self.text.iter().position(|b| *b == b' ') {
+            Some(i) => &self.text[i + 1..],
+            None => &[],
+        };
+        Line {
+            number: self.number,
+            text,
         }
-        i += 1;
     }
-    i
-}
 
-// Where the line after the one from `at` to `end` begins.
-pub fn past(text: &[u8], at: usize, end: usize) -> usize
-    requires { (at < length text.now) × (at ≤ end) × (end ≤ length text.now) }
-    ensures { (at < result) × (result ≤ length text.now) }
-{
-    if end < text.len() { end + 1 } else { end }
-}
-
-// A line that says nothing to a program: empty, or beginning with '#'.
-pub fn comment(line: &[u8]) -> bool {
-    if line.len() == 0 {
-        return true;
-    }
-    line[0] == b'#'
-}
-
-// The file of that name, as much of it as out holds. Answers how many bytes, and an error where it cannot be opened or read: then out may hold a part of it.
-// A name that is not UTF-8 is an error too, since std opens no such file.
-pub fn read(rt: &impl Files, path: &[u8], out: &mut [u8]) -> io::Result<usize>
-    ensures within { IfOk result (λ n. n ≤ length out.new) }
-    ensures kept { length out.new ≡ length out.old }
-{
-    let Ok(name) = str::from_utf8(path) else {
-        return Err(io::Error::from(io::ErrorKind::InvalidInput));
-    };
-    let mut file = File::open(rt, name)?;
-    let mut n = 0;
-    while n < out.len() {
-        let more = file.read(&mut out[n..])?;
-        if more == 0 {
-            break;
+    // The number of at most three decimal digits in field k, 0 for anything else.
+    pub fn decimal(self, k: usize) -> u32
+        ensures { result < 1666 }
+    {
+        match self.field(k) {
+            Some([a]) => u32::from(digit(*a)),
+            Some([a, b]) => u32::from(digit(*a)) * 10 + u32::from(digit(*b)),
+            Some([a, b, c]) => u32::from(digit(*a)) * 100
+                + u32::from(digit(*b)) * 10
+                + u32::from(digit(*c)),
+            _ => 0,
         }
-        n += more;
     }
-    Ok(n)
-}
 
-// Where the field after the one at `start` begins, or the length where there is none.
-fn next(line: &[u8], start: usize) -> usize
-    requires { start ≤ length line.now }
-    ensures { result ≤ length line.now }
-{
-    let end = find(line, start, b' ');
-    if end < line.len() { end + 1 } else { end }
-}
-
-// Field k of a line, or an empty one where there are fewer.
-pub fn field(line: &[u8], k: usize) -> Span
-    ensures { (result.start ≤ result.end) × (result.end ≤ length line.now) }
-{
-    let mut start = 0;
-    for _ in 0..k {
-        start = next(line, start);
+    // The pairs of hex digits in field k, none where there is no such field.
+    fn pairs(self, k: usize) -> &'a [[u8; 2]] {
+        let (pairs, _) = self.field(k).unwrap_or(&[]).as_chunks::<2>();
+        pairs
     }
-    Span {
-        start,
-        end: find(line, start, b' '),
+
+    // The bytes of field k, at most so many.
+    pub fn bytes(self, alloc: Global, k: usize, most: usize) -> Result<Vec<u8>, AllocError>
+        ensures { IfOk result (λ v. vec_len v ≤ most) }
+    {
+        self.pairs(k).iter().take(most).map(byte).collect(alloc)
+    }
+
+    // The first N bytes of field k, with zeros where there are fewer.
+    pub fn array<const N: usize>(self, k: usize) -> [u8; N] {
+        let mut bytes = [0; N];
+        for (b, pair) in bytes.iter_mut().zip(self.pairs(k)) {
+            *b = byte(pair);
+        }
+        bytes
+    }
+
+    // Whether field k has these bytes.
+    pub fn has(self, k: usize, bytes: &[u8]) -> bool {
+        self.pairs(k).iter().map(byte).eq(bytes.iter().copied())
     }
 }
 
@@ -102,55 +116,19 @@ fn digit(b: u8) -> u8
     }
 }
 
-fn byte(high: u8, low: u8) -> u8 {
+// The byte of two hex digits.
+fn byte(pair: &[u8; 2]) -> u8 {
+    let [high, low] = *pair;
     digit(high) * 16 + digit(low)
 }
 
-fn least(a: usize, b: usize) -> usize
-    ensures { (result ≤ a) × (result ≤ b) }
+// A long answer by its digest: 16 bytes of SHAKE256.
+pub fn digest(bytes: &[u8]) -> [u8; 16]
+    ensures { result ≡ shake 136 bytes.now 16 }
 {
-    if a < b { a } else { b }
-}
-
-// The bytes of hex digits, as many as there are and as out holds. Answers how many.
-pub fn unhex(text: &[u8], out: &mut [u8]) -> usize
-    ensures { result ≤ length out.new }
-{
-    let n = least(out.len(), text.len() / 2);
-    for i in 0..n {
-        out[i] = byte(text[2 * i], text[2 * i + 1]);
-    }
-    n
-}
-
-// The number of at most three decimal digits, 0 for anything else.
-pub fn decimal(text: &[u8]) -> usize
-    ensures { result < 1666 }
-{
-    match text.len() {
-        1 => digit(text[0]) as usize,
-        2 => digit(text[0]) as usize * 10 + digit(text[1]) as usize,
-        3 => digit(text[0]) as usize * 100 + digit(text[1]) as usize * 10 + digit(text[2]) as usize,
-        _ => 0,
-    }
-}
-
-// The number in field k.
-pub fn number_in(line: &[u8], k: usize) -> u32 {
-    let f = field(line, k);
-    let a = f.start;
-    let b = f.end;
-    decimal(&line[a..b]) as u32
-}
-
-// The bytes of field k. Answers how many.
-pub fn bytes_in(line: &[u8], k: usize, out: &mut [u8]) -> usize
-    ensures { result ≤ length out.new }
-{
-    let f = field(line, k);
-    let a = f.start;
-    let b = f.end;
-    unhex(&line[a..b], out)
+    let mut digest = [0u8; 16];
+    shake::shake(136, bytes, &mut digest);
+    digest
 }
 
 // Agreeing answers, and all of them. It stops counting at a million.
@@ -158,6 +136,8 @@ pub fn bytes_in(line: &[u8], k: usize, out: &mut [u8]) -> usize
 pub struct Tally {
     pub right: usize,
     pub all: usize,
+    ghost within: { right ≤ all },
+    ghost most: { all ≤ 1000000 },
 }
 
 impl Tally {
@@ -169,33 +149,40 @@ impl Tally {
 
     // With one answer more.
     pub fn with(self, agrees: bool) -> Self
-        ensures { result.all ≤ self.all + 1 }
+        ensures all { result.all ≡ min (self.all + 1) 1000000 }
+        ensures right { result.right ≤ self.right + 1 }
     {
-        let right = self.right;
-        let all = self.all;
-        if 1000000 <= all {
+        if self.all == 1_000_000 {
             return self;
-        }
-        if 1000000 <= right {
-            return self;
-        }
-        if agrees {
-            return Self {
-                right: right + 1,
-                all: all + 1,
-            };
         }
         Self {
-            right,
-            all: all + 1,
+            right: self.right + usize::from(agrees),
+            all: self.all + 1,
         }
     }
 }
 
-// Prints what was replayed, and how many of its answers agree.
-pub fn report(rt: &impl Print, name: &[u8], tally: Tally) -> io::Result<()> {
-    let right = tally.right;
-    let all = tally.all;
-    rt.write_all(name)?;
-    println!(rt; ": {right} of {all} agree")
+impl fmt::Display for Tally {
+    fn fmt<W: fmt::Write>(&self, f: &mut fmt::Formatter<W>) -> fmt::Result {
+        let right = self.right;
+        let all = self.all;
+        write!(f, "{right} of {all} agree")
+    }
+}
+
+// Counts the answers of a list: `with` adds those of a line that says something.
+pub fn count<E, F: FnMut(Tally, Line<'_>) -> Result<Tally, E>>(
+    text: &[u8],
+    mut with: F,
+) -> Result<Tally, E>
+    requires { F.IsAlwaysCallable with }
+{
+    let mut tally = Tally::new();
+    for (number, text) in (1..).zip(text.split(|b| *b == b'\n')) {
+        let line = Line { number, text };
+        if !line.is_comment() {
+            tally = with(tally, line)?;
+        }
+    }
+    Ok(tally)
 }

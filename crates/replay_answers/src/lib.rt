@@ -1,31 +1,39 @@
-// Answers that the replay programs compare: any by its digest, and those of rows of A and of the products on the matrices of a line.
+// Answers that the replay programs compare: rows of A, and the products on the matrices of a line. Each is made in memory that holds other words before.
 #![tactic(auto)]
 
-ghost use Rattle.std.specs.Prelude.{◌≡◌, ◌*◌, ◌≤◌, ◌<◌, length};
-ghost use Rattle.sets.specs.Sets.{Valid};
+ghost use Rattle.std.specs.Prelude.{◌≡◌, ◌*◌, vec_len, IfOk};
+ghost use Rattle.bits.specs.Little.{bytes_of};
 
-use sets::Params;
+use sets::Set;
 use shake::Sponge;
+use std::alloc::{AllocError, Global};
 
-// A long answer by its digest: 16 bytes of SHAKE256.
-pub fn digest_is(bytes: &[u8], expected: &[u8]) -> bool {
-    let mut out = [0u8; 16];
-    shake::shake(136, bytes, &mut out);
-    check::same(&out, expected)
-}
-
-// Words by the digest of their bytes, which are written to what is lent.
-pub fn words_digest_to(words: &[u16], bytes: &mut [u8], expected: &[u8]) -> bool
-    requires { length bytes.old ≡ 2 * length words.now }
+// The bytes of words.
+pub fn bytes_of(alloc: Global, words: &[u16]) -> Result<Vec<u8>, AllocError>
+    ensures { IfOk result (λ v. v.items ≡ bytes_of words.now) }
 {
-    words::bytes_of(words, bytes);
-    digest_is(bytes, expected)
+    let mut bytes = vec![in alloc; 0; 2 * words.len()]?;
+    words::bytes_of(words, &mut bytes);
+    Ok(bytes)
 }
 
-// Words all alike.
-fn fill(word: u16, out: &mut [u16]) {
-    for i in 0..out.len() {
-        out[i] = word;
+// How the matrices of a line are made: drawn from its seed, or of words all alike.
+#[derive(Clone, Copy)]
+pub enum Made {
+    Drawn,
+    Ones,
+    Zeros,
+}
+
+impl Made {
+    // By its letter.
+    pub fn of(letter: &[u8]) -> Option<Made> {
+        match letter {
+            b"r" => Some(Made::Drawn),
+            b"f" => Some(Made::Ones),
+            b"z" => Some(Made::Zeros),
+            _ => None,
+        }
     }
 }
 
@@ -38,105 +46,115 @@ fn draw(front: &[u8], seed: &[u8], out: &mut [u16]) {
     p.squeeze_words(out);
 }
 
-// Matrix t of a line, by the letter of how matrices are made.
-pub fn matrix(kind: u8, t: u8, seed: &[u8], out: &mut [u16]) {
-    let front = [t];
-    match kind {
-        b'f' => fill(0xffff, out),
-        b'z' => fill(0, out),
-        _ => draw(&front, seed, out),
+// Matrix t of a line.
+fn matrix(made: Made, t: u8, seed: &[u8], out: &mut [u16]) {
+    match made {
+        Made::Drawn => draw(&[t], seed, out),
+        Made::Ones => out.fill(0xffff),
+        Made::Zeros => out.fill(0),
     }
 }
 
-// Matrices 1 and 2, of m words each.
-pub fn matrices(kind: u8, seed: &[u8], m: usize, out: &mut [u16])
-    requires { length out.old ≡ 2 * m }
-{
-    let end = out.len();
-    matrix(kind, 1, seed, &mut out[0..m]);
-    matrix(kind, 2, seed, &mut out[m..end]);
+// What a line gives: its set, its seed, and matrices 1 and 2 of 8n words each, one behind the other.
+#[derive(Drop)]
+pub struct Input {
+    pub set: Set,
+    made: Made,
+    seed: Vec<u8>,
+    noise: Vec<u16>,
+    ghost sized: { vec_len noise ≡ 16 * set.p.n },
 }
 
-// The numbers of the rows that are tried.
-fn row_number(n: usize, k: usize) -> usize
-    requires { (8 ≤ n) × (n ≤ 1344) }
-    ensures { result < 65536 }
-{
-    match k {
-        0 => 0,
-        1 => 1,
-        2 => 255,
-        3 => 256,
-        _ => n - 1,
+impl Input {
+    pub fn new(alloc: Global, set: Set, made: Made, seed: Vec<u8>) -> Result<Input, AllocError>
+        ensures { IfOk result (λ input. input.set.p ≡ set.p) }
+    {
+        let mut noise = vec![in alloc; 0xa5a5; 16 * set.p.n]?;
+        let (first, second) = noise.split_at_mut(8 * set.p.n);
+        matrix(made, 1, &seed, first);
+        matrix(made, 2, &seed, second);
+        Ok(Input {
+            set,
+            made,
+            seed,
+            noise,
+        })
     }
-}
 
-fn five_rows(p: Params, seed: &[u8], out: &mut [u16])
-    requires { Valid p × (length out.old ≡ p.n * 5) }
-{
-    let n = p.n;
-    for k in 0..5 {
-        let at = n * k;
-        let end = at + n;
-        rows::row(p, seed, row_number(n, k), &mut out[at..end]);
+    // Words mod q.
+    pub fn in_residues(&self, words: &mut [u16]) {
+        rows::modulus(self.set).low_all(words);
     }
-}
 
-// Each of these overwrites the front of `work`, of 9n words, and answers how many words the answer has. `noise` has matrices 1 and 2.
-pub fn rows_answer(p: Params, seed: &[u8], work: &mut [u16]) -> usize
-    requires { Valid p × (length work.old ≡ 9 * p.n) }
-    ensures { result ≤ 9 * p.n }
-{
-    let k = p.n * 5;
-    five_rows(p, seed, &mut work[0..k]);
-    k
-}
+    // Five rows of A.
+    pub fn rows(&self, alloc: Global) -> Result<Vec<u16>, AllocError> {
+        let n = self.set.p.n;
+        let mut rows = Vec::new(alloc);
+        for i in [0, 1, 255, 256, n - 1] {
+            let mut row = vec![in alloc; 0xa5a5; n]?;
+            rows::row(self.set, &self.seed, i, &mut row);
+            rows.extend_from_slice(&row)?;
+        }
+        Ok(rows)
+    }
 
-pub fn as_answer(p: Params, seed: &[u8], noise: &[u16], work: &mut [u16]) -> usize
-    requires { Valid p × (length noise.now ≡ 16 * p.n) × (length work.old ≡ 9 * p.n) }
-    ensures { result ≤ 9 * p.n }
-{
-    let m = 8 * p.n;
-    let end = 16 * p.n;
-    products::mul_add_as_plus_e_from_seed(p, seed, &noise[0..m], &noise[m..end], work);
-    m
-}
+    // A * S + E.
+    pub fn as_plus_e(&self, alloc: Global) -> Result<Vec<u16>, AllocError> {
+        let n = self.set.p.n;
+        let (s, e) = self.noise.split_at(8 * n);
+        let mut work = vec![in alloc; 0xa5a5; 9 * n]?;
+        products::mul_add_as_plus_e_from_seed(self.set, &self.seed, s, e, &mut work);
+        work.truncate(8 * n);
+        Ok(work)
+    }
 
-pub fn sa_answer(p: Params, seed: &[u8], noise: &mut [u16], work: &mut [u16]) -> usize
-    requires { Valid p × (length noise.old ≡ 16 * p.n) × (length work.old ≡ 9 * p.n) }
-    ensures { result ≤ 9 * p.n }
-{
-    let m = 8 * p.n;
-    products::mul_add_sa_plus_e_from_seed(p, seed, noise, &mut work[0..m]);
-    m
-}
+    // S' * A + E'.
+    pub fn sa_plus_e(&self, alloc: Global) -> Result<Vec<u16>, AllocError> {
+        let mut noise = self.noise.clone()?;
+        let mut out = vec![in alloc; 0xa5a5; 8 * self.set.p.n]?;
+        products::mul_add_sa_plus_e_from_seed(self.set, &self.seed, &mut noise, &mut out);
+        Ok(out)
+    }
 
-// With matrix 3, of 64 words.
-fn sb_with(p: Params, noise: &[u16], e: &[u16], work: &mut [u16]) -> usize
-    requires { Valid p × (length noise.now ≡ 16 * p.n) × (length e.now ≡ 64) × (length work.old ≡ 9 * p.n) }
-    ensures { result ≤ 9 * p.n }
-{
-    let m = 8 * p.n;
-    let end = 16 * p.n;
-    products::mul_add_sb_plus_e(p, &noise[0..m], &noise[m..end], e, &mut work[0..64]);
-    64
-}
+    // S' * B + E'', with matrix 3, of 64 words.
+    pub fn sb_plus_e(&self, alloc: Global) -> Result<Vec<u16>, AllocError> {
+        let (s, b) = self.noise.split_at(8 * self.set.p.n);
+        let e = self.small(alloc, 3)?;
+        let mut out = vec![in alloc; 0xa5a5; 64]?;
+        products::mul_add_sb_plus_e(self.set, s, b, &e, &mut out);
+        Ok(out)
+    }
 
-pub fn sb_answer(p: Params, kind: u8, seed: &[u8], noise: &[u16], work: &mut [u16]) -> usize
-    requires { Valid p × (length noise.now ≡ 16 * p.n) × (length work.old ≡ 9 * p.n) }
-    ensures { result ≤ 9 * p.n }
-{
-    let mut third = [0u16; 64];
-    matrix(kind, 3, seed, &mut third);
-    sb_with(p, noise, &third, work)
-}
+    // B' * S.
+    pub fn bs(&self, alloc: Global) -> Result<Vec<u16>, AllocError> {
+        let (b, s) = self.noise.split_at(8 * self.set.p.n);
+        let mut out = vec![in alloc; 0xa5a5; 64]?;
+        products::mul_bs(self.set, b, s, &mut out);
+        Ok(out)
+    }
 
-pub fn bs_answer(p: Params, noise: &[u16], work: &mut [u16]) -> usize
-    requires { Valid p × (length noise.now ≡ 16 * p.n) × (length work.old ≡ 9 * p.n) }
-    ensures { result ≤ 9 * p.n }
-{
-    let m = 8 * p.n;
-    let end = 16 * p.n;
-    products::mul_bs(p, &noise[0..m], &noise[m..end], &mut work[0..64]);
-    64
+    // Matrix t, of 64 words.
+    fn small(&self, alloc: Global, t: u8) -> Result<Vec<u16>, AllocError>
+        ensures { IfOk result (λ v. vec_len v ≡ 64) }
+    {
+        let mut words = vec![in alloc; 0xa5a5; 64]?;
+        matrix(self.made, t, &self.seed, &mut words);
+        Ok(words)
+    }
+
+    // Matrices 1 and 2 of 64 words, added.
+    pub fn sum(&self, alloc: Global) -> Result<Vec<u16>, AllocError> {
+        let first = self.small(alloc, 1)?;
+        let mut second = self.small(alloc, 2)?;
+        products::add(self.set, &first, &mut second);
+        Ok(second)
+    }
+
+    // And subtracted.
+    pub fn difference(&self, alloc: Global) -> Result<Vec<u16>, AllocError> {
+        let first = self.small(alloc, 1)?;
+        let mut second = self.small(alloc, 2)?;
+        products::sub(self.set, &first, &mut second);
+        Ok(second)
+    }
 }

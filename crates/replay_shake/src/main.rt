@@ -4,8 +4,9 @@
 ghost use Rattle.std.specs.Prelude.{◌≡◌, ◌%◌, ◌≤◌, ◌<◌};
 ghost use Rattle.shake.specs.Sponge.{Squeezing, Even};
 
-use replay::Tally;
+use replay::{Line, Tally};
 use shake::Sponge;
+use std::alloc::{AllocError, Global};
 use std::io;
 use std::rt::Files;
 
@@ -14,37 +15,42 @@ const LENGTHS: [usize; 15] = [
     0, 1, 135, 136, 137, 167, 168, 169, 271, 272, 273, 335, 336, 337, 2688,
 ];
 
-// SHAKE128 has the rate 168, SHAKE256 the rate 136.
-fn rate_of(name: &[u8]) -> usize
-    ensures { (0 < result) × (result ≤ 200) × (result % 2 ≡ 0) }
-{
-    let bits = replay::decimal(name);
-    match bits {
-        128 => 168,
-        _ => 136,
+#[derive(Clone, Copy)]
+enum Hash {
+    Shake128,
+    Shake256,
+}
+
+impl Hash {
+    // By the bits of its name, SHAKE256 where that is not 128.
+    fn of(bits: u32) -> Hash {
+        match bits {
+            128 => Hash::Shake128,
+            _ => Hash::Shake256,
+        }
+    }
+
+    fn rate(self) -> usize
+        ensures { (0 < result) × (result ≤ 200) × (result % 2 ≡ 0) }
+    {
+        match self {
+            Hash::Shake128 => 168,
+            Hash::Shake256 => 136,
+        }
+    }
+
+    // A sponge that has taken in two parts of an input.
+    fn over(self, first: &[u8], second: &[u8]) -> Sponge
+        ensures { Squeezing result × Even result }
+    {
+        let p = Sponge::new(self.rate());
+        let p = p.absorb(first);
+        let p = p.absorb(second);
+        p.finish()
     }
 }
 
-// The bytes in one call.
-fn whole(rate: usize, input: &[u8], expected: &[u8], out: &mut [u8]) -> bool
-    requires { (0 < rate) × (rate ≤ 200) }
-{
-    shake::shake(rate, input, out);
-    check::same(out, expected)
-}
-
-// A sponge that has taken in two parts of an input.
-fn over(rate: usize, first: &[u8], second: &[u8]) -> Sponge
-    requires { (0 < rate) × (rate ≤ 200) × (rate % 2 ≡ 0) }
-    ensures { Squeezing result × Even result }
-{
-    let p = Sponge::new(rate);
-    let p = p.absorb(first);
-    let p = p.absorb(second);
-    p.finish()
-}
-
-// Its bytes in two pieces.
+// Two pieces of a sponge's bytes.
 fn pieces(p: Sponge, first: &mut [u8], second: &mut [u8])
     requires { Squeezing p }
 {
@@ -52,115 +58,102 @@ fn pieces(p: Sponge, first: &mut [u8], second: &mut [u8])
     q.squeeze(second);
 }
 
-// Two pieces of output for two parts of an input.
-fn in_pieces(p: Sponge, expected: &[u8], also: &[u8], first: &mut [u8], second: &mut [u8]) -> bool
-    requires { Squeezing p }
-{
-    pieces(p, first, second);
-    if check::same(first, expected) {
-        return check::same(second, also);
+// A line: 128 or 256, the input, the output.
+#[derive(Drop)]
+struct Answer {
+    hash: Hash,
+    input: Vec<u8>,
+    output: Vec<u8>,
+}
+
+impl Answer {
+    fn of(alloc: Global, line: Line<'_>) -> Result<Answer, AllocError> {
+        Ok(Answer {
+            hash: Hash::of(line.decimal(0)),
+            input: line.bytes(alloc, 1, 4096)?,
+            output: line.bytes(alloc, 2, 4096)?,
+        })
     }
-    false
-}
 
-fn least(a: usize, b: usize) -> usize
-    ensures { (result ≤ a) × (result ≤ b) }
-{
-    if a < b { a } else { b }
-}
-
-// One answer at one output length: in one call, and with input and output cut there.
-fn at_length(rate: usize, input: &[u8], expected: &[u8], len: usize, tally: Tally) -> Tally
-    requires { (0 < rate) × (rate ≤ 200) × (rate % 2 ≡ 0) }
-{
-    let mut out = [0u8; 4096];
-    let mut first = [0u8; 4096];
-    let mut second = [0u8; 4096];
-    let n = input.len();
-    let mid = least(len, n);
-    let all = least(expected.len(), 4096);
-    let cut = least(len, all);
-    let rest = all - cut;
-    let t = tally.with(whole(rate, input, &expected[0..cut], &mut out[0..cut]));
-    let p = over(rate, &input[0..mid], &input[mid..n]);
-    t.with(in_pieces(
-        p,
-        &expected[0..cut],
-        &expected[cut..all],
-        &mut first[0..cut],
-        &mut second[0..rest],
-    ))
-}
-
-// All expected bytes as words of two, the lower first.
-fn in_words(rate: usize, input: &[u8], expected: &[u8]) -> bool
-    requires { (0 < rate) × (rate ≤ 200) × (rate % 2 ≡ 0) }
-{
-    let mut words = [0u16; 1344];
-    let mut bytes = [0u8; 2688];
-    let p = over(rate, input, b"");
-    p.squeeze_words(&mut words);
-    words::bytes_of(&words, &mut bytes);
-    check::same(&bytes, expected)
-}
-
-// One answer at every length of the list, and in words.
-fn at_each_length(rate: usize, input: &[u8], expected: &[u8], tally: Tally) -> Tally
-    requires { (0 < rate) × (rate ≤ 200) × (rate % 2 ≡ 0) }
-{
-    let lengths = LENGTHS;
-    let mut t = tally.with(in_words(rate, input, expected));
-    for k in 0..15 {
-        t = at_length(rate, input, expected, lengths[k], t);
+    // Whether these are the first bytes, in one call.
+    fn begins_with(&self, alloc: Global, output: &[u8]) -> Result<bool, AllocError> {
+        let mut out = vec![in alloc; 0; output.len()]?;
+        shake::shake(self.hash.rate(), &self.input, &mut out);
+        Ok(out.as_slice() == output)
     }
-    t
+
+    // Whether the output is right in two pieces, for two parts of the input, both cut at that length.
+    fn holds_cut(&self, alloc: Global, len: usize) -> Result<bool, AllocError> {
+        let (front, rest) = self.input.split_at(len.min(self.input.len()));
+        let (first, second) = self.output.split_at(len.min(self.output.len()));
+        let mut one = vec![in alloc; 0; first.len()]?;
+        let mut two = vec![in alloc; 0; second.len()]?;
+        pieces(self.hash.over(front, rest), &mut one, &mut two);
+        Ok(one.as_slice() == first && two.as_slice() == second)
+    }
+
+    // Whether it is right as words of two bytes, the lower first.
+    fn holds_in_words(&self) -> bool {
+        let mut words = [0u16; 1344];
+        let mut bytes = [0u8; 2688];
+        self.hash.over(&self.input, b"").squeeze_words(&mut words);
+        words::bytes_of(&words, &mut bytes);
+        bytes.as_slice() == self.output.as_slice()
+    }
+
+    // At one output length: in one call, and with input and output cut there.
+    fn at_length(&self, alloc: Global, tally: Tally, len: usize) -> Result<Tally, AllocError> {
+        let (first, _) = self.output.split_at(len.min(self.output.len()));
+        let tally = tally.with(self.begins_with(alloc, first)?);
+        Ok(tally.with(self.holds_cut(alloc, len)?))
+    }
 }
 
-// One line: 128 or 256, the input, the output.
-fn replayed(line: &[u8], edges: bool, tally: Tally) -> Tally {
-    if replay::comment(line) {
-        return tally;
-    }
-    let mut input = [0u8; 4096];
-    let mut expected = [0u8; 4096];
-    let f = replay::field(line, 0);
-    let a = f.start;
-    let b = f.end;
-    let rate = rate_of(&line[a..b]);
-    let f = replay::field(line, 1);
-    let a = f.start;
-    let b = f.end;
-    let n = replay::unhex(&line[a..b], &mut input);
-    let f = replay::field(line, 2);
-    let a = f.start;
-    let b = f.end;
-    let m = replay::unhex(&line[a..b], &mut expected);
-    if edges {
-        return at_each_length(rate, &input[0..n], &expected[0..m], tally);
-    }
-    let mut out = [0u8; 4096];
-    tally.with(whole(rate, &input[0..n], &expected[0..m], &mut out[0..m]))
+// A published line, in one call.
+fn published(alloc: Global, tally: Tally, line: Line<'_>) -> Result<Tally, AllocError> {
+    let answer = Answer::of(alloc, line)?;
+    Ok(tally.with(answer.begins_with(alloc, &answer.output)?))
 }
 
-// Every line of a list.
-fn lines(text: &[u8], edges: bool) -> Tally {
-    let mut tally = Tally::new();
-    let mut at = 0;
-    while at < text.len() {
-        let end = replay::find(text, at, b'\n');
-        tally = replayed(&text[at..end], edges, tally);
-        at = replay::past(text, at, end);
+// A line around a block's edge, at every length of the list, and in words.
+fn edges(alloc: Global, tally: Tally, line: Line<'_>) -> Result<Tally, AllocError> {
+    let answer = Answer::of(alloc, line)?;
+    let mut tally = tally.with(answer.holds_in_words());
+    for len in LENGTHS {
+        tally = answer.at_length(alloc, tally, len)?;
     }
-    tally
+    Ok(tally)
 }
 
-fn replay_list(rt: &(impl Files + Print), name: &[u8], path: &[u8], edges: bool) -> io::Result<()> {
-    let mut text = [0u8; 262144];
-    let n = replay::read(rt, path, &mut text)?;
-    replay::report(rt, name, lines(&text[0..n], edges))
+// Replays a list: `with` adds the answers of a line.
+fn replay_list<F: FnMut(Tally, Line<'_>) -> Result<Tally, AllocError>>(
+    rt: &(impl Files + Print),
+    alloc: Global,
+    name: &str,
+    path: &str,
+    with: F,
+) -> io::Result<()>
+    requires { F.IsAlwaysCallable with }
+{
+    let text = replay::read(rt, alloc, path, 262144)?;
+    let tally = replay::count(&text, with)?;
+    println!(rt; "{name}: {tally}")
 }
 
 fn main(rt: HostRuntime) -> io::Result<()> {
-    replay_list(&rt, b"published answers", b"published.txt", false)?;
-    replay_list(&rt, b"answers around each block's edge", b"edges.txt", true)
+    let alloc = rt.alloc();
+    replay_list(
+        &rt,
+        alloc,
+        "published answers",
+        "published.txt",
+        |tally, line| { published(alloc, tally, line) },
+    )?;
+    replay_list(
+        &rt,
+        alloc,
+        "answers around each block's edge",
+        "edges.txt",
+        |tally, line| { edges(alloc, tally, line) },
+    )
 }

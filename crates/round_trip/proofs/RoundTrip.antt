@@ -7,7 +7,7 @@ use lib.ListN.{get_or}
 use Rattle.lists.specs.Lists.{Below}
 use Rattle.sets.specs.Sets.{params_of}
 use Rattle.sets.specs.declared.Params.{Params}
-use Rattle.sets.specs.declared.Answer.TheVariants.{Done}
+use Rattle.sets.specs.Answers.{Done}
 use Rattle.message.specs.Message.{groups_of}
 use Rattle.scheme.specs.Demand3.{recovered_message, recovered_secret}
 use Rattle.scheme.specs.Margin.{kept}

@@ -6,7 +6,7 @@ use Rattle.lists.specs.Lists.{Below}
 use Rattle.algebra.specs.Whole.{floor_div, modulo}
 use Rattle.sets.specs.Sets.{params_of}
 use Rattle.sets.specs.declared.Params.{Params}
-use Rattle.sets.specs.declared.Answer.TheVariants.{Done}
+use Rattle.sets.specs.Answers.{Done}
 use Rattle.lengths.specs.Sized.{Scratch}
 use Rattle.message.specs.Message.{half, groups_of}
 use Rattle.scheme.specs.Noise.{centred_at, AllInRange}

@@ -1,12 +1,11 @@
 -- The third demand (docs/RULES.md, 1.3) as a statement, with the law of each group from which it follows. A seed's key seals a message with a salt, and
 -- the same key opens it again: what comes back, and when. proofs/Demand3.antt proves it.
 -- Assumes nothing.
-use Rattle.std.specs.Prelude.{◌≡◌, ◌↔◌, List, ℕ, ◌+◌, ◌*◌, ◌^◌, ◌<◌, pos, ◌+ℤ◌, length, get_or}
+use Rattle.std.specs.Prelude.{◌≡◌, ◌↔◌, List, ℕ, ◌+◌, ◌*◌, ◌^◌, ◌<◌, pos, ◌+ℤ◌, length, get_or, Some}
 use Rattle.lists.specs.Lists.{Below}
 use Rattle.algebra.specs.Whole.{floor_div, modulo}
 use Rattle.sets.specs.Sets.{chosen}
 use Rattle.sets.specs.declared.Params.{Params}
-use Rattle.sets.specs.declared.Chosen.TheVariants.{Known}
 use Rattle.message.specs.Message.{half, groups_of}
 use Rattle.scheme.specs.KeyGen.{public_key, secret_key}
 use Rattle.scheme.specs.Encaps.{ciphertext, shared_secret}
@@ -38,5 +37,5 @@ pub record Demand3 (p : Params) (seed msg salt : List ℕ) : Type 0 where
 
 -- for every set that has a number, every seed and every message of bytes of that set's lengths, and every salt
 abbrev pub ThirdDemand : Type 0
-ThirdDemand = (set : ℕ) (p : Params) → chosen set ≡ Known p
+ThirdDemand = (set : ℕ) (p : Params) → chosen set ≡ Some p
     → (seed msg salt : List ℕ) → length seed ≡ p.seed → length msg ≡ p.secret → Below 256 msg → Demand3 p seed msg salt

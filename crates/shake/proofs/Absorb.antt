@@ -1,14 +1,13 @@
 -- FIPS 202 (2015), the sponge construction, absorbing: bytes absorbed one at a time are absorbed block by block. Assumes nothing.
-use mathlib.Core.Path.{◌≡◌, refl, sym, ap, ap₂, ◌∙◌, subst}
+use mathlib.Core.Path.{◌≡◌, refl, sym, ap, ◌∙◌, subst}
 use mathlib.Core.List.{List, [], ◌∷◌, ◌++◌}
-use Prim.Native.Nat.{ℕ, zero, suc, ◌+◌, ◌-◌, ◌*◌, ◌%◌, ◌≤◌, ◌<◌}
+use Prim.Native.Nat.{ℕ, zero, suc, ◌+◌, ◌*◌, ◌%◌, ◌≤◌, ◌<◌}
 use native.Mathlib.Nat.{add-zero, zero-mul, suc-mul, mod-eq_of_lt}
 use native.Mathlib.Omega.{arith}
 use lib.ListN.{length, take, drop, length-drop, length-set, take-append-drop}
-use lib.Seq.{length-take-le, take-add, take-length}
+use lib.Seq.{length-take-le}
 use Rattle.lists.specs.Lists.{Below}
 use Rattle.lists.proofs.Tables.{below_take, below_drop}
-use Rattle.lists.proofs.Spans.{length_mid}
 use Rattle.keccak.specs.Keccak.{keccak_f}
 use Rattle.shake.specs.Shake.{add_block, absorb_blocks}
 use Rattle.shake.specs.Sponge.{made, xor_byte, xor_bytes, turned, absorb_byte, absorb_bytes, Ready}
@@ -59,28 +58,6 @@ place_bytes p (x ∷ xs) h =
     ∙ place_turned q (length xs)
     ∙ ap (λ (n : ℕ). n % p.rate) e
 
--- ---- the loop's invariant: of xs the first n bytes are absorbed, from p₀ on
-
-pub record Took (p₀ : Sponge) (n : ℕ) (xs : List ℕ) (p : Sponge) : Type 0 where
-  pub is : p ≡ absorb_bytes p₀ (take n xs)
-  pub ready : Ready p
-
--- none is
-pub took_none : (p₀ : Sponge) (xs : List ℕ) → Ready p₀ → Took p₀ 0 xs p₀
-unfolding absorb_bytes
-took_none p₀ xs h = record { is = refl; ready = h }
-
--- m more are
-took_part : {p₀ p q : Sponge} {n : ℕ} {xs : List ℕ} (m : ℕ) → Took p₀ n xs p → q ≡ absorb_bytes p (take m (drop n xs)) → Took p₀ (n + m) xs q
-took_part {p₀} {p} {q} {n} {xs} m t e = record {
-  is = e ∙ ap (λ (z : Sponge). absorb_bytes z (take m (drop n xs))) t.is ∙ sym (absorb_append p₀ (take n xs) (take m (drop n xs))) ∙ ap (absorb_bytes p₀) (sym (take-add n m xs));
-  ready = subst (λ (z : Sponge). Ready z) (sym e) (ready_bytes p (take m (drop n xs)) t.ready);
-}
-
--- all are
-pub took_all : {p₀ p : Sponge} {n : ℕ} {xs : List ℕ} → Took p₀ n xs p → n ≡ length xs → p ≡ absorb_bytes p₀ xs
-took_all {p₀} {p} {n} {xs} t e = t.is ∙ ap (absorb_bytes p₀) (ap (λ (k : ℕ). take k xs) e ∙ take-length xs)
-
 -- ---- bytes that stay within a block
 
 pub absorb_within : (s : List ℕ) (k r : ℕ) (p : List ℕ) → k < r → k + length p ≤ r → absorb_bytes (made s k r) p ≡ turned (made (xor_bytes s k p) (k + length p) r)
@@ -93,15 +70,28 @@ absorb_within s k r (b ∷ c ∷ p) h l =
     ∙ absorb_within (xor_byte s k b) (k + 1) r (c ∷ p) (omega arith) (omega arith)
     ∙ ap (λ (n : ℕ). turned (made (xor_bytes s k (b ∷ c ∷ p)) n r)) e
 
--- m more of xs are absorbed, as many as the block has room for at the most
-pub took_block : {p₀ q : Sponge} {s u xs : List ℕ} {k r n : ℕ} (m : ℕ) → Took p₀ n xs (made s k r) → k + m ≤ r → n + m ≤ length xs
-    → u ≡ xor_bytes s k (take (n + m - n) (drop n xs)) → q ≡ turned (made u (k + m) r) → Took p₀ (n + m) xs q
-took_block {p₀} {q} {s} {u} {xs} {k} {r} {n} m t l h e f =
-    let d : n + m - n ≡ m = omega arith in
-    let z : length (take m (drop n xs)) ≡ m = length_mid n m xs h in
-    took_part m t
-    (f ∙ ap₂ (λ (v : List ℕ) (j : ℕ). turned (made v (k + j) r)) (e ∙ ap (λ (j : ℕ). xor_bytes s k (take j (drop n xs))) d) (sym z)
-    ∙ sym (absorb_within s k r (take m (drop n xs)) t.ready.within (omega arith)))
+-- ---- the loop's invariant: p absorbs what is left of a list as p₀ absorbs all of it
+
+pub record Left (p₀ : Sponge) (xs : List ℕ) (p : Sponge) (rest : List ℕ) : Type 0 where
+  pub is : absorb_bytes p rest ≡ absorb_bytes p₀ xs
+  pub ready : Ready p
+
+-- a part is absorbed, as much as the block has room for at the most
+pub left_behind : {p₀ q : Sponge} {s u xs rest : List ℕ} {k r : ℕ} (part behind : List ℕ) → Left p₀ xs (made s k r) rest → rest ≡ part ++ behind → k + length part ≤ r
+    → u ≡ xor_bytes s k part → q ≡ turned (made u (k + length part) r) → Left p₀ xs q behind
+left_behind {q = q} {s} {k = k} {r} part behind left e l eu eq =
+    let here : q ≡ absorb_bytes (made s k r) part =
+    eq ∙ ap (λ (v : List ℕ). turned (made v (k + length part) r)) eu ∙ sym (absorb_within s k r part left.ready.within l) in
+    record {
+      is = ap (λ (z : Sponge). absorb_bytes z behind) here ∙ sym (absorb_append (made s k r) part behind) ∙ ap (absorb_bytes (made s k r)) (sym e) ∙ left.is;
+      ready = subst (λ (z : Sponge). Ready z) (sym here) (ready_bytes (made s k r) part left.ready);
+    }
+
+-- nothing is left
+pub left_none : {p₀ p : Sponge} {xs rest : List ℕ} → Left p₀ xs p rest → length rest ≡ 0 → p ≡ absorb_bytes p₀ xs
+unfolding absorb_bytes
+left_none {rest = []} left e = left.is
+left_none {rest = x ∷ rest} left e = absurd (omega arith)
 
 -- ---- whole blocks
 

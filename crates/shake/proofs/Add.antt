@@ -8,11 +8,13 @@ use native.Mathlib.Omega.{arith}
 use lib.Bits.{bit_xor}
 use lib.ListN.{length, get_or, set, take, drop}
 use lib.Seq.{take-add, take-length, length-take-le, drop-cons}
+use Rattle.std.specs.Simd.{first_chunks}
 use Rattle.lists.specs.Lists.{Below}
 use Rattle.lists.proofs.Tables.{below_take, below_drop}
 use Rattle.lists.proofs.Spans.{length_mid}
 use Rattle.bits.specs.Digits.{number}
 use Rattle.shake.specs.Sponge.{xor_byte, xor_bytes, Whole}
+use Rattle.shake.proofs.Eights.{eight_at}
 use Rattle.shake.proofs.Lane.{add_lane}
 
 -- one list after another
@@ -46,17 +48,16 @@ added_byte {s} {xs} {t} {u} {k} {n} a l e =
     added_part 1 a (omega arith) (e ∙ sym (ap (λ (z : List ℕ). xor_bytes t (k + n) (take 1 z)) (drop-cons xs n 0 l)))
 
 -- a lane more
-pub added_lane : {s xs t u : List ℕ} (l n : ℕ) → Added s (8 * l) (8 * n) xs t → Below 256 xs → 8 * n + 8 ≤ length xs
-    → u ≡ set t (l + n) (bit_xor (get_or t (l + n) 0) (number 256 (take (8 * n + 8 - 8 * n) (drop (8 * n) xs)))) → Added s (8 * l) (8 * (n + 1)) xs u
-added_lane {s} {xs} {t} {u} l n a h r e =
-    let d : 8 * n + 8 - 8 * n ≡ 8 = omega arith in
+pub added_lane : {s xs t u : List ℕ} (l n : ℕ) {eights : List (List ℕ)} → Added s (8 * l) (8 * n) xs t → Below 256 xs → n < length xs / 8 → eights ≡ first_chunks 8 (length xs / 8) xs
+    → u ≡ set t (l + n) (bit_xor (get_or t (l + n) 0) (number 256 (get_or eights n []))) → Added s (8 * l) (8 * (n + 1)) xs u
+added_lane {s} {xs} {t} {u} l n a h r is e =
     let f : 8 * (l + n) ≡ 8 * l + 8 * n = omega arith in
     let g : 8 * n + 8 ≡ 8 * (n + 1) = omega arith in
     let p : List ℕ = take 8 (drop (8 * n) xs) in
     subst (λ (j : ℕ). Added s (8 * l) j xs u) g
     (added_part 8 a (omega arith)
-    (e ∙ ap (λ (j : ℕ). set t (l + n) (bit_xor (get_or t (l + n) 0) (number 256 (take j (drop (8 * n) xs))))) d
-    ∙ sym (add_lane (l + n) t p (below_take 8 (drop (8 * n) xs) (below_drop (8 * n) xs h)) (length_mid (8 * n) 8 xs r))
+    (e ∙ ap (λ (q : List ℕ). set t (l + n) (bit_xor (get_or t (l + n) 0) (number 256 q))) (ap (λ (es : List (List ℕ)). get_or es n []) is ∙ eight_at (length xs / 8) n xs r)
+    ∙ sym (add_lane (l + n) t p (below_take 8 (drop (8 * n) xs) (below_drop (8 * n) xs h)) (length_mid (8 * n) 8 xs (omega arith)))
     ∙ ap (λ (j : ℕ). xor_bytes t j p) f))
 
 -- all

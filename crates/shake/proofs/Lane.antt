@@ -1,19 +1,21 @@
 -- Eight bytes added to the state one after the other are one lane added. Assumes nothing.
-use mathlib.Core.Path.{◌≡◌, refl, sym, ap, ap₂, ◌∙◌, subst}
+use mathlib.Core.Path.{◌≡◌, refl, sym, ap, ap₂, ◌∙◌}
 use mathlib.Core.Bool.{Bool, true, false}
 use mathlib.Core.List.{List, [], ◌∷◌}
 use Prim.Native.Nat.{ℕ, suc, ◌+◌, ◌*◌, ◌/◌, ◌%◌, ◌^◌, ◌≤◌, ◌<◌}
-use native.Mathlib.Nat.{add-zero, zero-mul, mul_assoc, mul-one}
+use native.Mathlib.Nat.{add-zero, zero-mul, mul_assoc, mul-one, mod-eq_of_lt}
 use native.Mathlib.Omega.{arith}
 use borrow.Author.Tests.{ltb-true, ltb-false}
 use lib.Bits.{bit_xor, xor_zero_r, xor_comm, xor_shifted}
-use lib.Dec.{ltb, lit<}
+use lib.Dec.{ltb}
 use lib.ListN.{length, get_or, set}
 use lib.Pow.{pow-add, shl_exact}
 use lib.Seq.{set_out, set-set, set-get_or, get_or-set_same}
+use mir.Syntax.{w64}
+use Rattle.std.specs.Int.{from_le_bytes}
 use Rattle.lists.specs.Lists.{Below}
+use Rattle.lists.proofs.Tables.{known}
 use Rattle.bits.specs.Digits.{number}
-use Rattle.bits.proofs.Digits.{number_append, number_lt}
 use Rattle.bits.proofs.Xor.{xor_assoc, xor_shl}
 use Rattle.shake.specs.Sponge.{xor_byte, xor_bytes}
 
@@ -69,12 +71,9 @@ module _ (l : ℕ) where
       ∙ lane_bytes s 0 p h (omega arith)
       ∙ ap (λ (z : ℕ). set s l (bit_xor (get_or s l 0) z)) (mul-one (number 256 p))
 
--- two halves of a lane side by side
-pub two_halves : (x y a b c d e f g h : ℕ) → x ≡ number 256 (a ∷ b ∷ c ∷ d ∷ []) → y ≡ number 256 (e ∷ f ∷ g ∷ h ∷ [])
-    → (x + y * 2 ^ 32 % 2 ^ 64 ≡ number 256 (a ∷ b ∷ c ∷ d ∷ e ∷ f ∷ g ∷ h ∷ [])) × (x + y * 2 ^ 32 % 2 ^ 64 < 2 ^ 64)
-two_halves x y a b c d e f g h p q =
-    let low : x < 4294967296 = subst (λ (n : ℕ). n < 4294967296) (sym p) (number_lt 256 (lit< tt) (a ∷ b ∷ c ∷ d ∷ [])) in
-    let high : y < 4294967296 = subst (λ (n : ℕ). n < 4294967296) (sym q) (number_lt 256 (lit< tt) (e ∷ f ∷ g ∷ h ∷ [])) in
-    let both : number 256 (a ∷ b ∷ c ∷ d ∷ e ∷ f ∷ g ∷ h ∷ []) ≡ x + 4294967296 * y =
-    number_append 256 (lit< tt) (a ∷ b ∷ c ∷ d ∷ []) (e ∷ f ∷ g ∷ h ∷ []) ∙ ap₂ (λ (m n : ℕ). m + 4294967296 * n) (sym p) (sym q) in
-    (omega arith, omega arith)
+-- eight bytes as a number, the lowest first
+pub lane_number : (p : List ℕ) → length p ≡ 8 → Below 256 p → from_le_bytes w64 p ≡ number 256 p
+unfolding number
+lane_number p n h =
+    let byte : (i : ℕ) → get_or p i 0 % 256 ≡ get_or p i 0 = λ i. mod-eq_of_lt (h i) in
+    omega (arith, byte 0, byte 1, byte 2, byte 3, byte 4, byte 5, byte 6, byte 7) ∙ ap (number 256) (known 8 p n)

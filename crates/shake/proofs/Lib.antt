@@ -3,6 +3,7 @@ pub mod Length
 pub mod Turn
 pub mod Lanes
 pub mod Lane
+pub mod Eights
 pub mod Add
 pub mod Absorb
 pub mod Padding

@@ -2,7 +2,7 @@
 // A sponge goes by value: new, absorb as often as there are parts, finish, squeeze as often as bytes are asked for.
 #![tactic(auto)]
 
-ghost use Rattle.std.specs.Prelude.{◌≡◌, min, ◌+◌, ◌*◌, ◌/◌, ◌%◌, ◌^◌, ◌≤◌, ◌<◌, [], ◌∷◌, length};
+ghost use Rattle.std.specs.Prelude.{◌≡◌, ◌+◌, ◌*◌, ◌/◌, ◌%◌, ◌^◌, ◌≤◌, ◌<◌, [], ◌∷◌, length};
 ghost use Rattle.lists.specs.Lists.{tab};
 ghost use Rattle.bits.specs.Digits.{number};
 ghost use Rattle.bits.specs.Little.{words_of};
@@ -10,6 +10,7 @@ ghost use Rattle.shake.specs.Shake.{shake};
 ghost use Rattle.shake.specs.Sponge.{made, turned, add_byte, xor_bytes, word_at, Whole, empty, absorb_bytes, finished, squeezed, after, Ready, Squeezing, Even};
 
 // `at` is the place of the next byte in a block of `rate` bytes.
+// Stays: `Ready`, `Squeezing` and `Even` are no invariants of it, since `new` promises a sponge of every rate, and `at` is below the rate where bytes are absorbed, but may equal it where they are squeezed.
 #[derive(Clone, Copy)]
 pub struct Sponge {
     pub lanes: [u64; 25],
@@ -29,28 +30,18 @@ fn add_bytes(lanes: &mut [u64; 25], k: usize, bytes: &[u8])
     requires { k + length bytes.now ≤ 200 }
     ensures { lanes.new ≡ xor_bytes lanes.old k bytes.now }
 {
-    for i in 0..bytes.len() {
+    for (i, &b) in bytes.iter().enumerate() {
         let p = k + i;
         let l = p / 8;
-        lanes[l] = add_byte(lanes[l], p, bytes[i]);
+        lanes[l] = add_byte(lanes[l], p, b);
     }
 }
 
-// Half a lane of four bytes, the lowest first.
-fn half(a: u8, b: u8, c: u8, d: u8) -> u64
-    ensures { result ≡ number 256 (a ∷ b ∷ c ∷ d ∷ []) }
-{
-    a as u64 + ((b as u64) << 8) + ((c as u64) << 16) + ((d as u64) << 24)
-}
-
-// The lane that a slice of eight bytes holds.
-fn lane_of(bytes: &[u8]) -> u64
-    requires { length bytes.now ≡ 8 }
+// The lane of eight bytes, the lowest first.
+fn lane_of(bytes: &[u8; 8]) -> u64
     ensures { result ≡ number 256 bytes.now }
 {
-    let low = half(bytes[0], bytes[1], bytes[2], bytes[3]);
-    let high = half(bytes[4], bytes[5], bytes[6], bytes[7]);
-    low + (high << 32)
+    u64::from_le_bytes(*bytes)
 }
 
 // Whole lanes of bytes added, from lane l on.
@@ -58,12 +49,10 @@ fn add_lanes(lanes: &mut [u64; 25], l: usize, bytes: &[u8])
     requires { (length bytes.now % 8 ≡ 0) × (8 * l + length bytes.now ≤ 200) }
     ensures { lanes.new ≡ xor_bytes lanes.old (8 * l) bytes.now }
 {
-    let n = bytes.len() / 8;
-    for t in 0..n {
-        let i = 8 * t;
-        let j = i + 8;
+    let (eights, _) = bytes.as_chunks::<8>();
+    for (t, eight) in eights.iter().enumerate() {
         let k = l + t;
-        lanes[k] = lanes[k] ^ lane_of(&bytes[i..j]);
+        lanes[k] = lanes[k] ^ lane_of(eight);
     }
 }
 
@@ -79,6 +68,7 @@ fn add_block(lanes: &mut [u64; 25], k: usize, bytes: &[u8])
 }
 
 // The byte at place k of the state, in the lane x.
+// Stays: this and `word_at` are a line each; one function of both would be a trait over u8 and u16.
 fn byte_at(x: u64, k: usize) -> u8
     ensures { result ≡ x / 2 ^ (8 * (k % 8)) % 256 }
 {
@@ -90,12 +80,6 @@ fn word_at(x: u64, k: usize) -> u16
     ensures { result ≡ x / 2 ^ (8 * (k % 8)) % 65536 }
 {
     ((x >> (8 * (k % 8)) as u64) % 65536) as u16
-}
-
-fn least(x: usize, y: usize) -> usize
-    ensures { result ≡ min x y }
-{
-    if x < y { x } else { y }
 }
 
 // How many lanes n elements fill, `size` of them a lane, from place k on: none where k is not the first place of one.
@@ -111,14 +95,14 @@ fn put_words(lanes: &[u64; 25], k: usize, out: &mut [u16])
     requires { k + 2 * length out.old ≤ 200 }
     ensures { out.new ≡ tab (length out.old) (λ j. word_at lanes.now (k + 2 * j)) }
 {
-    for i in 0..out.len() {
+    for (i, word) in out.iter_mut().enumerate() {
         let p = k + 2 * i;
-        let l = p / 8;
-        out[i] = word_at(lanes[l], p);
+        *word = word_at(lanes[p / 8], p);
     }
 }
 
 // The four words of the lane x.
+// Stays: `to_le_bytes` would give eight bytes, to be joined in pairs again.
 fn put_lane(x: u64, out: &mut [u16])
     requires { length out.old ≡ 4 }
     ensures { out.new ≡ tab 4 (λ j. x / 2 ^ (16 * j) % 65536) }
@@ -135,6 +119,7 @@ fn put_lanes(lanes: &[u64; 25], l: usize, out: &mut [u16])
     ensures { out.new ≡ tab (length out.old) (λ j. word_at lanes.now (8 * l + 2 * j)) }
 {
     let n = out.len() / 4;
+    // Stays: over `out.chunks_exact_mut(4)` nothing is known of what `out` ends as, and the proof stops at `returns`.
     for t in 0..n {
         let i = 4 * t;
         let j = i + 4;
@@ -155,6 +140,7 @@ fn put_block(lanes: &[u64; 25], k: usize, out: &mut [u16])
 }
 
 // At the end of a block the permutation, and the next block's first place; elsewhere nothing.
+// Stays: lanes, place and rate are locals of each loop. As a method of one sponge that is changed in place it was proved, and whole calls took 0.5 to 1 % longer.
 fn next_block(lanes: &mut [u64; 25], at: usize, rate: usize) -> usize
     ensures { made lanes.new result rate ≡ turned (made lanes.old at rate) }
 {
@@ -183,15 +169,14 @@ impl Sponge {
         let mut lanes = self.lanes;
         let mut at = self.at;
         let rate = self.rate;
-        let n = bytes.len();
-        let mut i = 0;
-        while i < n {
-            let m = least(rate - at, n - i);
-            let j = i + m;
-            add_block(&mut lanes, at, &bytes[i..j]);
-            let end = at + m;
+        let mut rest = bytes;
+        while !rest.is_empty() {
+            let room = rate - at;
+            let (part, behind) = rest.split_at(room.min(rest.len()));
+            add_block(&mut lanes, at, part);
+            let end = at + part.len();
             at = next_block(&mut lanes, end, rate);
-            i = j;
+            rest = behind;
         }
         Self { lanes, at, rate }
     }
@@ -220,10 +205,9 @@ impl Sponge {
         let mut lanes = self.lanes;
         let mut at = self.at;
         let rate = self.rate;
-        for i in 0..out.len() {
+        for byte in out {
             let k = next_block(&mut lanes, at, rate);
-            let l = k / 8;
-            out[i] = byte_at(lanes[l], k);
+            *byte = byte_at(lanes[k / 8], k);
             at = k + 1;
         }
         Self { lanes, at, rate }
@@ -238,10 +222,11 @@ impl Sponge {
         let mut at = self.at;
         let rate = self.rate;
         let n = out.len();
+        // Stays: with the front split off `out` a turn (`rest.split_at_mut(m)`) no invariant can say what `out` ends as, and the proof stops at `returns`.
         let mut i = 0;
         while i < n {
             let place = next_block(&mut lanes, at, rate);
-            let m = least((rate - place) / 2, n - i);
+            let m = ((rate - place) / 2).min(n - i);
             let j = i + m;
             put_block(&lanes, place, &mut out[i..j]);
             at = place + 2 * m;
@@ -252,6 +237,7 @@ impl Sponge {
 }
 
 // SHAKE at a rate of that many bytes: `out` is filled with the first bytes for `input`.
+// Stays: SHAKE by the sponge by value (docs/RULES.md, 7.8), with the contract that docs/PROOF.md names, beside that of crates/sponge, which lends one.
 pub fn shake(rate: usize, input: &[u8], out: &mut [u8])
     requires { (0 < rate) × (rate ≤ 200) }
     ensures { out.new ≡ shake rate input.now (length out.old) }

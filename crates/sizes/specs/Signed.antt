@@ -1,13 +1,12 @@
 -- The noise of the third demand (docs/RULES.md, 1.3) over the signed numbers that sampling answers (docs/RULES.md, 4.5.3), before anything is taken mod q, with the matrices
 -- of the FrodoKEM standard proposal (2023), FrodoKEM.KeyGen and FrodoKEM.Encaps. proofs/Signed.antt proves that the noise is this mod q, and SignedDemand.
 -- Assumes nothing.
-use Rattle.std.specs.Prelude.{◌≡◌, ◌↔◌, List, ℕ, zero, suc, ◌<◌, ℤ, pos, ◌+ℤ◌, ◌-ℤ◌, ◌*ℤ◌, length}
+use Rattle.std.specs.Prelude.{◌≡◌, ◌↔◌, List, ℕ, zero, suc, ◌<◌, ℤ, pos, ◌+ℤ◌, ◌-ℤ◌, ◌*ℤ◌, length, Some}
 use Rattle.lists.specs.Lists.{Below}
 use Rattle.algebra.specs.Matrix.{Matrix, mat, mat_t}
 use Rattle.algebra.specs.Whole.{centred, modulo}
 use Rattle.sets.specs.Sets.{chosen}
 use Rattle.sets.specs.declared.Params.{Params}
-use Rattle.sets.specs.declared.Chosen.TheVariants.{Known}
 use Rattle.message.specs.Message.{half}
 use Rattle.scheme.specs.Parts.{pkh_of}
 use Rattle.scheme.specs.KeyGen.{key_s, key_e, public_key}
@@ -46,6 +45,6 @@ SignedInRange p seed msg salt = (i j : ℕ) → i < 8 → j < 8 → InRange (hal
 
 -- the third demand of these numbers: the message comes back exactly where every entry is in range
 abbrev pub SignedDemand : Type 0
-SignedDemand = (set : ℕ) (p : Params) → chosen set ≡ Known p
+SignedDemand = (set : ℕ) (p : Params) → chosen set ≡ Some p
     → (seed msg salt : List ℕ) → length seed ≡ p.seed → length msg ≡ p.secret → Below 256 msg
     → (recovered_message p seed msg salt ≡ msg) ↔ SignedInRange p seed msg salt

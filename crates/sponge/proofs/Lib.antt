@@ -1,2 +1,2 @@
--- The laws that make what the functions over a lent sponge give SHAKE.
+-- A sponge that takes parts in a row.
 pub mod Laws

@@ -1,2 +1,2 @@
--- What the sponge holds between its parts.
-pub mod Full
+-- The parts of an input, in a row.
+pub mod Parts

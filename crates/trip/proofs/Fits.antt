@@ -8,7 +8,7 @@ use lib.ListN.{length, length-append, length-drop, length-replicate}
 use Rattle.lists.specs.Lists.{wiped}
 use Rattle.sets.specs.Sets.{params_of}
 use Rattle.sets.specs.declared.Params.{Params}
-use Rattle.sets.specs.declared.Answer.TheVariants.{Done}
+use Rattle.sets.specs.Answers.{Done}
 use Rattle.sets.proofs.Facts.{valid}
 use Rattle.lengths.specs.Sized.{Scratch}
 use Rattle.scheme.proofs.Keys.{length_public_key}

@@ -4,7 +4,7 @@ use mathlib.Core.Path.{◌≡◌, refl, sym, ap, ◌∙◌, subst}
 use lib.ListN.{length}
 use Rattle.lists.specs.Lists.{Below}
 use Rattle.sets.specs.Sets.{params_of}
-use Rattle.sets.specs.declared.Answer.TheVariants.{Done}
+use Rattle.sets.specs.Answers.{Done}
 use Rattle.lengths.specs.Sized.{Scratch}
 use Rattle.frodo.specs.Keypair.{KeypairLeft, keypair_leaves}
 use Rattle.frodo.specs.Encaps.{EncapsLent, EncapsLeft, encaps_leaves}

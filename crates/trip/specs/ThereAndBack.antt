@@ -2,7 +2,7 @@
 -- Assumes nothing.
 use Rattle.std.specs.Prelude.{◌≡◌, ◌↔◌, true, length}
 use Rattle.sets.specs.Sets.{known, params_of}
-use Rattle.sets.specs.declared.Answer.TheVariants.{Done}
+use Rattle.sets.specs.Answers.{Done}
 use Rattle.lengths.specs.Sized.{Scratch}
 use Rattle.scheme.specs.Noise.{AllInRange}
 use Rattle.trip.specs.declared.Answers.{Answers}

@@ -13,6 +13,7 @@ pub struct Answers {
     pub opening: Answer,
 }
 
+// Stays: every buffer is an argument of its own, as of the three calls that it makes (crates/frodo).
 // `ss` takes encapsulation's secret, `opened` and `back` decapsulation's secret and message.
 pub fn there_and_back(
     set: u32,
@@ -36,8 +37,8 @@ pub fn there_and_back(
     let sealing = frodo::encapsulate(set, pk, msg, salt, ct, ss, noise, work);
     let opening = frodo::decapsulate(set, sk, ct, opened, back, noise, work);
     Answers {
-        keys: keys,
-        sealing: sealing,
-        opening: opening,
+        keys,
+        sealing,
+        opening,
     }
 }

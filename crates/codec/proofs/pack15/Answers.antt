@@ -3,9 +3,12 @@
 use native.Mathlib.Omega.{arith}
 use borrow.Author.Rules.{rules}
 use mathlib.Core.Path.{◌≡◌, refl, ◌∙◌}
-use lib.ListN.{length, length-take, length-drop}
-use Rattle.lists.proofs.Parts.{Joins, parts_none, turn, turned}
+use mathlib.Core.List.{◌++◌}
+use Prim.Native.Nat.{◌+◌, ◌<◌}
+use lib.ListN.{length}
+use Rattle.lists.proofs.Parts.{Joins, parts_none, turned}
 use Rattle.codec.specs.Pack.{packed}
+use Rattle.lists.proofs.Chunks.{chunk_fits, chunk_done, chunk_turn, chunks_and_rest}
 use Rattle.codec.proofs.RoundTrip.{packs}
 use Rattle.codec.proofs.pack15.Goals as goal
 
@@ -14,23 +17,25 @@ joins : Joins (packed 15) 8 15
 joins = packs 15 8 15 refl
 
 pub loop-k-init : goal.loop-k-init
-loop-k-init c = (omega arith, omega arith, parts_none joins _ _)
-
-pub pack_eight-v-requires : goal.pack_eight-v-requires
-pack_eight-v-requires c = simp (length-take, length-drop) (omega arith)
-
-pub copy_bytes-requires : goal.copy_bytes-requires
-copy_bytes-requires c = let h : length c.pack_eight-v.result ≡ 15 = search rules in simp (length-take, length-drop) (omega arith)
+loop-k-init c =
+    let zero : c.into_iter-k-iterator.result.count ≡ 0 = search rules in
+    (search rules, record { is = search rules; fits = search rules }, rw zero (parts_none joins _ _))
 
 pub loop-k-preserved : goal.loop-k-preserved
 unfolding packed
 loop-k-preserved c =
     let l = c.loop-k in
-    let written = c.copy_bytes.ensures ∙ c.pack_eight-v.ensures in
-    (omega arith, l.invariant.1, turn joins l.invariant.2 (omega arith) (omega arith) written)
-
-pub shape_of-out : goal.shape_of-out
-shape_of-out c = c.loop-k.invariant.2.front.len
+    let next : c.next.new.self.count ≡ l.k-iterator.count + 1 = search rules in
+    let at : c.in-Some.k ≡ l.k-iterator.count = search rules in
+    let split : l.k-iterator.iter.rest.now ≡ c.in-Some.eight.now ++ c.next.new.self.iter.rest.now = search rules in
+    let eight : length c.in-Some.eight.now ≡ 8 = search rules in (
+      search rules,
+      rw next (chunk_done _ _ l.invariant.1 split eight),
+      rw (next, at) (chunk_turn _ _ joins l.invariant.2 l.invariant.1 split eight (c.copy_from_slice.ensures.after ∙ c.pack_eight.ensures) (omega (arith, chunk_fits _ _ l.invariant.1 split eight))),
+    )
 
 pub returns : goal.returns
-returns c = turned joins c.loop-k.invariant.2 (omega arith) (omega arith)
+returns c =
+    let left : length c.loop-k.k-iterator.iter.rest.now < 8 = search rules in
+    let all : c.loop-k.k-iterator.count ≡ c.requires.count = omega (arith, chunks_and_rest c.loop-k.invariant.1) in
+    turned joins c.loop-k.invariant.2 (omega arith) (omega arith)

@@ -3,10 +3,13 @@
 use native.Mathlib.Omega.{arith}
 use borrow.Author.Rules.{rules}
 use mathlib.Core.Path.{◌≡◌, refl, ◌∙◌}
+use mathlib.Core.List.{◌++◌}
+use Prim.Native.Nat.{◌+◌, ◌<◌}
 use lib.Dec.{lit<}
-use lib.ListN.{length, length-take, length-drop}
-use Rattle.lists.proofs.Parts.{Joins, parts_none, turn, turned}
+use lib.ListN.{length}
+use Rattle.lists.proofs.Parts.{Joins, parts_none, turned}
 use Rattle.codec.specs.Pack.{unpacked}
+use Rattle.lists.proofs.Chunks.{chunk_fits, chunk_done, chunk_turn, chunks_and_rest}
 use Rattle.codec.proofs.RoundTrip.{unpacks}
 use Rattle.codec.proofs.unpack15.Goals as goal
 
@@ -15,23 +18,25 @@ joins : Joins (unpacked 15) 15 8
 joins = unpacks 15 15 8 (lit< tt) refl
 
 pub loop-k-init : goal.loop-k-init
-loop-k-init c = (omega arith, omega arith, parts_none joins _ _)
-
-pub unpack_fifteen-v-requires : goal.unpack_fifteen-v-requires
-unpack_fifteen-v-requires c = simp (length-take, length-drop) (omega arith)
-
-pub copy_words-requires : goal.copy_words-requires
-copy_words-requires c = let h : length c.unpack_fifteen-v.result ≡ 8 = search rules in simp (length-take, length-drop) (omega arith)
+loop-k-init c =
+    let zero : c.into_iter-k-iterator.result.count ≡ 0 = search rules in
+    (search rules, record { is = search rules; fits = search rules }, rw zero (parts_none joins _ _))
 
 pub loop-k-preserved : goal.loop-k-preserved
 unfolding unpacked
 loop-k-preserved c =
     let l = c.loop-k in
-    let written = c.copy_words.ensures ∙ c.unpack_fifteen-v.ensures in
-    (omega arith, l.invariant.1, turn joins l.invariant.2 (omega arith) (omega arith) written)
-
-pub shape_of-out : goal.shape_of-out
-shape_of-out c = c.loop-k.invariant.2.front.len
+    let next : c.next.new.self.count ≡ l.k-iterator.count + 1 = search rules in
+    let at : c.in-Some.k ≡ l.k-iterator.count = search rules in
+    let split : l.k-iterator.iter.rest.now ≡ c.in-Some.fifteen.now ++ c.next.new.self.iter.rest.now = search rules in
+    let fifteen : length c.in-Some.fifteen.now ≡ 15 = search rules in (
+      search rules,
+      rw next (chunk_done _ _ l.invariant.1 split fifteen),
+      rw (next, at) (chunk_turn _ _ joins l.invariant.2 l.invariant.1 split fifteen (c.copy_from_slice.ensures.after ∙ c.unpack_fifteen.ensures) (omega (arith, chunk_fits _ _ l.invariant.1 split fifteen))),
+    )
 
 pub returns : goal.returns
-returns c = turned joins c.loop-k.invariant.2 (omega arith) (omega arith)
+returns c =
+    let left : length c.loop-k.k-iterator.iter.rest.now < 15 = search rules in
+    let all : c.loop-k.k-iterator.count ≡ c.requires.count = omega (arith, chunks_and_rest c.loop-k.invariant.1) in
+    turned joins c.loop-k.invariant.2 (omega arith) (omega arith)

@@ -1,5 +1,6 @@
 -- `codec::unpack16` meets its contract: after i turns the first i words are the unpacking of the first 2i bytes.
 -- Assumes nothing.
+use borrow.Author.Rules.{rules}
 use Prim.Native.Nat.{◌+◌, ◌*◌}
 use native.Mathlib.Omega.{arith}
 use mathlib.Core.Path.{refl, ◌∙◌}
@@ -22,12 +23,11 @@ loop-i-init c = (omega arith, refl, parts_none joins _ _)
 pub loop-i-preserved : goal.loop-i-preserved
 loop-i-preserved c =
     let l = c.loop-i in
-    let byte = c.type_inv.bytes in
-    let value = cons c.word.ensures refl ∙ unpack_two _ _ (byte (2 * l.i)).fits (byte (2 * l.i + 1)).fits in
-    (omega arith, l.invariant.1, turn_single joins l.invariant.2 (omega arith) (omega arith) value)
-
-pub shape_of-out : goal.shape_of-out
-shape_of-out c = c.loop-i.invariant.2.front.len
+    let byte = c.type_inv.bytes in (
+      omega arith,
+      l.invariant.1,
+      turn_single joins l.invariant.2 (omega arith) (omega arith) (cons (search (rules, c.from_be_bytes.ensures)) refl ∙ unpack_two _ _ (byte (2 * l.i)).fits (byte (2 * l.i + 1)).fits),
+    )
 
 pub returns : goal.returns
 returns c = turned joins c.loop-i.invariant.2 (omega arith) (omega arith)

@@ -5,4 +5,4 @@ use Rattle.decaps.proofs.draw_again.Goals as goal
 
 pub returns : goal.returns
 returns c =
-    drawn_again _ c.requires.0 c.args.sk.now c.args.ct.now c.args.msg.now c.args.seeds.now c.requires.1 c.requires.3 c.salt_of.ensures c.hash3.ensures
+    drawn_again _ c.args.ct.set.valid c.args.sk.now c.args.ct.bytes.now c.args.msg.now c.requires.0 c.requires.1 c.salt.ensures c.hash.ensures

@@ -4,4 +4,4 @@ use Rattle.encaps.proofs.Seeds.{draw_law}
 use Rattle.encaps.proofs.draw_seeds.Goals as goal
 
 pub returns : goal.returns
-returns c = draw_law _ c.requires.0 _ _ _ c.args.pkh.now c.args.seeds.now c.requires.1 c.requires.2 c.hash.ensures c.hash3.ensures
+returns c = draw_law _ c.args.set.valid _ _ _ c.args.pkh.now c.args.seeds.now c.requires.0 c.requires.1 c.hash.ensures c.hash-2.ensures

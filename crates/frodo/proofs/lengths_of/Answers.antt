@@ -3,6 +3,7 @@
 use mathlib.Core.Path.{◌≡◌, sym, ap, ◌∙◌}
 use mathlib.Core.Bool.{Bool, true, false, cond}
 use Prim.Native.Nat.{ℕ}
+use Rattle.std.proofs.Common.{rules}
 use Rattle.sets.specs.Sets.{known, params_of}
 use Rattle.sets.proofs.Facts.{picked, refused}
 use Rattle.frodo.specs.SetLengths.{lengths_of, no_lengths, lengths_for}
@@ -13,13 +14,14 @@ told : (set : ℕ) (b : Bool) → known set ≡ b → lengths_for set ≡ cond b
 unfolding lengths_for
 told set b e = ap (λ (k : Bool). cond k (lengths_of (params_of set)) no_lengths) e
 
-pub returns-in_default : goal.returns-in_default
-returns-in_default c =
+pub returns-in-Some : goal.returns-in-Some
+returns-in-Some c =
     let set = c.args.set in
-    sym (told set false (refused set (sym c.choose.ensures ∙ c.in_default.is)))
+    let e = picked set c.in-Some.set.p (sym c.in-Some.ensures) in
+    c.from.ensures ∙ ap lengths_of e.1 ∙ sym (told set true e.0)
 
-pub returns : goal.returns
-returns c =
+pub returns-in-None : goal.returns-in-None
+returns-in-None c =
     let set = c.args.set in
-    let e = picked set c.in-Known.p (sym c.choose.ensures ∙ c.in-Known.is) in
-    ap lengths_of e.1 ∙ sym (told set true e.0)
+    let zeros : c.default.result ≡ no_lengths = search rules in
+    zeros ∙ sym (told set false (refused set (sym c.in-None.ensures)))

@@ -2,13 +2,9 @@
 -- Assumes nothing.
 use mathlib.Core.Path.{ap, ◌∙◌}
 use Rattle.scheme.specs.Parts.{hash, stored_samples}
-use Rattle.hashes.proofs.Laws.{rate_even}
 use Rattle.hashes.proofs.draw.Goals as goal
-
-pub shake_words-requires : goal.shake_words-requires
-shake_words-requires c = rate_even c.requires
 
 pub returns : goal.returns
 unfolding hash
 returns c =
-    c.store_samples.ensures ∙ ap (stored_samples c.args.p.chi) c.shake_words.ensures
+    c.store_samples.ensures ∙ ap (stored_samples c.args.set.p.chi) c.shake_words.ensures

@@ -2,11 +2,7 @@
 -- Assumes nothing.
 use borrow.Author.Rules.{rules}
 use Rattle.scheme.specs.Parts.{hash}
-use Rattle.hashes.proofs.Laws.{rate_taken}
 use Rattle.hashes.proofs.hash.Goals as goal
-
-pub shake-requires : goal.shake-requires
-shake-requires c = rate_taken c.requires
 
 pub returns : goal.returns
 unfolding hash

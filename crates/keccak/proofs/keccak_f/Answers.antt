@@ -9,25 +9,23 @@ use Rattle.keccak.specs.Keccak.{theta, rho, pi, chi, iota_with, iota, round, rou
 use Rattle.keccak.proofs.Constants.{constant_at}
 use Rattle.keccak.proofs.keccak_f.Goals as goal
 
-pub loop-i-init : goal.loop-i-init
+pub loop-constant-init : goal.loop-constant-init
 unfolding rounds
-loop-i-init c = (omega arith, refl)
+loop-constant-init c = refl
 
-pub loop-i-preserved : goal.loop-i-preserved
+pub loop-constant-preserved : goal.loop-constant-preserved
 unfolding rounds round iota
-loop-i-preserved c =
-    let i : ℕ = c.loop-i.i in
+loop-constant-preserved c =
+    let i : ℕ = c.loop-constant.constant-index in
     let a : List ℕ = c.args.a in
-    let mixed : List ℕ → List ℕ = λ s. chi (pi (rho (theta s))) in (
-      omega arith,
-      c.round-next.ensures
-          ∙ ap (λ (k : ℕ). iota_with k (mixed c.loop-i.s)) (constant_at i (omega arith))
-          ∙ ap (λ (s : List ℕ). iota i (mixed s)) c.loop-i.invariant.1
-          ∙ ap (λ (n : ℕ). rounds n a) (sym (add-one i)),
-    )
+    let mixed : List ℕ → List ℕ = λ s. chi (pi (rho (theta s))) in
+    c.round-next.ensures
+    ∙ ap (λ (k : ℕ). iota_with k (mixed c.loop-constant.s)) (constant_at i c.loop-constant-test.true)
+    ∙ ap (λ (s : List ℕ). iota i (mixed s)) c.loop-constant.invariant
+    ∙ ap (λ (n : ℕ). rounds n a) (sym (add-one i))
 
 pub returns : goal.returns
 unfolding keccak_f
 returns c =
-    let last : c.loop-i.i ≡ 24 = omega arith in
-    c.loop-i.invariant.1 ∙ ap (λ (n : ℕ). rounds n c.args.a) last
+    let last : c.loop-constant.constant-index ≡ 24 = omega (arith, c.loop-constant-test.false) in
+    c.loop-constant.invariant ∙ ap (λ (n : ℕ). rounds n c.args.a) last

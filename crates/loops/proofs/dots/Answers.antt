@@ -1,9 +1,8 @@
 -- `loops::dots` meets its contract: after j turns j terms are taken in.
 -- Assumes nothing.
 use native.Mathlib.Omega.{arith}
-use mathlib.Core.Path.{◌≡◌, ap, ◌∙◌}
 use Rattle.algebra.specs.Matrix.{mat_t}
-use Rattle.loops.proofs.Eights.{gathered, gather_start, gather_turn}
+use Rattle.loops.proofs.Eights.{gather_start, gather_turn}
 use Rattle.loops.proofs.dots.Goals as goal
 
 pub loop-j-init : goal.loop-j-init
@@ -14,9 +13,3 @@ pub loop-j-preserved : goal.loop-j-preserved
 loop-j-preserved c = let l = c.loop-j in
     let a = c.args in
     (omega arith, gather_turn a.n a.e.now a.a.now (mat_t a.n a.s.now) l.j l.invariant.1 c.column8-y.ensures c.mac8-next.ensures)
-
-pub returns : goal.returns
-returns c = let l = c.loop-j in
-    let a = c.args in
-    let q : l.j ≡ a.n = omega arith in
-    l.invariant.1 ∙ ap (gathered a.n a.e.now a.a.now (mat_t a.n a.s.now)) q

@@ -6,4 +6,4 @@ use Rattle.margin.proofs.sealing_noise.Goals as goal
 pub returns : goal.returns
 returns c =
     let a = c.args in
-    sealing_drawn _ c.requires.0 a.pkh.now a.msg.now a.salt.now a.seeds.now a.noise.now c.requires.1 c.requires.2 c.hash3.ensures c.draw.ensures
+    sealing_drawn _ c.args.set.valid a.pkh.now a.msg.now a.salt.now a.seeds.now a.noise.now c.requires.0 c.requires.1 c.hash.ensures c.draw.ensures

@@ -1,13 +1,10 @@
--- `message::number_of` meets its contract: after i turns t is the number of the last i bytes.
+-- `message::number_of` meets its contract: t is the number of the bytes that are read, which are the last ones.
 -- Assumes nothing.
-use Prim.Native.Nat.{◌-◌, ◌≤◌}
 use mathlib.Core.Path.{◌≡◌}
-use lib.ListN.{length}
-use Rattle.bits.proofs.FromTop.{Read}
+use mathlib.Core.List.{List, ◌++◌}
+use Prim.Native.Nat.{ℕ}
+use Rattle.bits.specs.Digits.{number}
 use Rattle.message.proofs.number_of.Given as goal
 
-abbrev pub invariant-loop-i : goal.invariant-loop-i
-invariant-loop-i l = (l.i ≤ l.n) × (l.n ≡ length l.m) × Read 256 l.m l.i l.t
-
-abbrev pub decreases-loop-i : goal.decreases-loop-i
-decreases-loop-i l = l.n - l.i
+abbrev pub invariant-loop-x : goal.invariant-loop-x
+invariant-loop-x l = (done : List ℕ) × (l.m ≡ l.x-iterator.iter.rest.now ++ done) × (l.t ≡ number 256 done)

@@ -7,5 +7,5 @@ use Rattle.lists.proofs.Loops.{Upto}
 use Rattle.bits.specs.Digits.{digit}
 use Rattle.message.proofs.put_bytes.Given as goal
 
-abbrev pub invariant-loop-j : goal.invariant-loop-j
-invariant-loop-j l = (l.j ≤ l.j-end) × (l.j-end ≡ length l.initial.out) × (l.t ≡ l.n / 256 ^ l.j) × Upto (digit 256 l.n) l.j l.initial.out l.out
+abbrev pub invariant-loop-x : goal.invariant-loop-x
+invariant-loop-x l = (l.x-index ≤ l.x-index-end) × (l.x-index-end ≡ length l.initial.out) × (l.t ≡ l.n / 256 ^ l.x-index) × Upto (digit 256 l.n) l.x-index l.initial.out l.out

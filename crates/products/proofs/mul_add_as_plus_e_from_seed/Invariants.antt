@@ -14,7 +14,7 @@ abbrev pub result : (p : Params) (seedA s e : List ℕ) → Matrix
 result p seedA s e = mul p.n (mat_a p seedA) (mat_t p.n s) ⊕ mat 8 e
 
 abbrev pub invariant-loop-i : goal.invariant-loop-i
-invariant-loop-i l = (l.i ≤ l.n) × (length l.work ≡ 9 * l.n) × Top 65536 8 (result l.p l.seed l.s l.e) l.i l.work
+invariant-loop-i l = (l.i ≤ l.n) × (length l.work ≡ 9 * l.n) × Top 65536 8 (result l.set.p l.seed l.s l.e) l.i l.work
 
 abbrev pub decreases-loop-i : goal.decreases-loop-i
 decreases-loop-i l = l.n - l.i

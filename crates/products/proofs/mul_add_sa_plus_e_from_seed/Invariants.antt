@@ -15,7 +15,7 @@ abbrev pub result : (p : Params) (seedA noise : List ℕ) (k : ℕ) → List ℕ
 result p seedA noise k = residues 65536 (table 8 p.n (mul k (mat p.n (take (8 * p.n) noise)) (mat_a p seedA) ⊕ mat p.n (drop (8 * p.n) noise)))
 
 abbrev pub invariant-loop-k : goal.invariant-loop-k
-invariant-loop-k l = (l.k ≤ l.n) × (length l.noise ≡ 16 * l.n) × (take (8 * l.n) l.noise ≡ take (8 * l.n) l.initial.noise) × (l.out ≡ result l.p l.seed l.initial.noise l.k)
+invariant-loop-k l = (l.k ≤ l.n) × (length l.noise ≡ 16 * l.n) × (take (8 * l.n) l.noise ≡ take (8 * l.n) l.initial.noise) × (l.out ≡ result l.set.p l.seed l.initial.noise l.k)
 
 abbrev pub decreases-loop-k : goal.decreases-loop-k
 decreases-loop-k l = l.n - l.k

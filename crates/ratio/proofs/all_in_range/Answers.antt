@@ -1,4 +1,4 @@
--- `ratio::all_in_range` meets its contract: after i turns `kept` says whether the first i words are in range.
+-- `ratio::all_in_range` meets its contract: `kept` says whether the words so far are in range.
 -- Assumes nothing.
 use mathlib.Core.Path.{◌≡◌, refl, sym, ap, ap₂, ◌∙◌}
 use mathlib.Core.Bool.{Bool, ◌&&◌}
@@ -10,23 +10,19 @@ use Rattle.scheme.specs.Margin.{in_range, every, kept_by}
 use Rattle.scheme.proofs.Margin.{every_next}
 use Rattle.ratio.proofs.all_in_range.Goals as goal
 
-pub loop-i-init : goal.loop-i-init
+pub loop-x-init : goal.loop-x-init
 unfolding every
-loop-i-init c = (omega arith, refl, refl)
+loop-x-init c = refl
 
-pub in_range-here-requires : goal.in_range-here-requires
-in_range-here-requires c =
-    (c.requires.0, c.requires.1 c.loop-i.i)
-
-pub loop-i-preserved : goal.loop-i-preserved
-loop-i-preserved c =
-    let l = c.loop-i in
-    (omega arith, l.invariant.1, ap₂ (λ (a b : Bool). a && b) l.invariant.2 c.in_range-here.ensures ∙ sym (every_next l.i _))
+pub loop-x-preserved : goal.loop-x-preserved
+loop-x-preserved c =
+    let l = c.loop-x in
+    ap₂ (λ (a b : Bool). a && b) l.invariant c.in_range-kept.ensures ∙ sym (every_next l.x-index _)
 
 pub returns : goal.returns
 unfolding kept_by
 returns c =
-    let l = c.loop-i in
+    let l = c.loop-x in
     let a = c.args in
-    let end : l.i ≡ length a.words.now = omega arith in
-    l.invariant.2 ∙ ap (λ (n : ℕ). every n (λ t. in_range a.h (centred a.q (get_or a.words.now t 0)))) end
+    let end : l.x-index ≡ length a.words.now = omega arith in
+    l.invariant ∙ ap (λ (n : ℕ). every n (λ t. in_range a.h (centred a.q (get_or a.words.now t 0)))) end

@@ -8,15 +8,9 @@ use Rattle.lists.specs.Lists.{residues}
 use Rattle.rows.specs.Row.{row_words, row}
 use Rattle.rows.proofs.row.Goals as goal
 
-pub mask-requires : goal.mask-requires
-mask-requires c = c.requires.0
-
-pub mask_words-requires : goal.mask_words-requires
-mask_words-requires c = c.mask.ensures.0
-
 pub returns : goal.returns
 unfolding row
 returns c = let a = c.args in
-    let n : length a.out.now ≡ a.p.n = omega arith in
-    c.mask_words.ensures
-    ∙ ap₂ residues c.mask.ensures.1 (c.row_words.ensures ∙ ap (λ (z : ℕ). row_words z a.seed.now a.i) n)
+    let n : length a.out.now ≡ a.set.p.n = omega arith in
+    c.low_all.ensures
+    ∙ ap₂ residues c.modulus.ensures (c.row_words.ensures ∙ ap (λ (z : ℕ). row_words z a.seed.now a.i) n)

@@ -1,11 +1,14 @@
 -- `rows::row_words` meets its contract: the sponge has absorbed i's two bytes, then the seed, and gives the row's words.
 -- Assumes nothing.
 use native.Mathlib.Omega.{arith}
-use mathlib.Core.Path.{refl, ◌∙◌}
+use Rattle.std.specs.Int.{to_le_bytes}
+use Rattle.lists.proofs.Tables.{cons}
+use Rattle.shake.specs.Sponge.{absorb_bytes}
+use mathlib.Core.Path.{◌≡◌, ap, refl, ◌∙◌}
 use mathlib.Core.List.{List, [], ◌∷◌, ◌++◌}
 use Prim.Native.Nat.{ℕ, zero, suc, ◌/◌, ◌%◌, ◌<◌}
 use lib.ListN.{get_or}
-use mir.Syntax.{w8}
+use mir.Syntax.{w8, w16}
 use mir.Val.{Fits}
 use Rattle.shake.proofs.Uses.{Absorbed, none, more, ready, squeezing, even, shakes_words}
 use Rattle.rows.specs.Row.{row_words}
@@ -21,19 +24,20 @@ number-bytes i h zero = record { fits = omega arith }
 number-bytes i h (suc zero) = record { fits = omega arith }
 number-bytes i h (suc (suc k)) = record { fits = omega arith }
 
+-- and as the library writes them
+written : (i : ℕ) {bytes : List ℕ} → i < 65536 → bytes ≡ to_le_bytes w16 i → bytes ≡ number i
+written i h e = e ∙ cons (omega arith) (cons (omega arith) refl)
+
 nothing : (c : After-new-sponge) → Absorbed 168 [] c.new-sponge.result
 nothing c = none (omega arith, omega arith) c.new-sponge.ensures
 
 two_bytes : (c : After-absorb-sponge) → Absorbed 168 (number c.args.i) c.absorb-sponge.result
-two_bytes c = more (number c.args.i) (none (omega arith, omega arith) c.new-sponge.ensures) (number-bytes c.args.i c.requires) c.absorb-sponge.ensures
+two_bytes c = more (number c.args.i) (none (omega arith, omega arith) c.new-sponge.ensures) (number-bytes c.args.i c.requires) (c.absorb-sponge.ensures ∙ ap (absorb_bytes c.new-sponge.result) (written c.args.i c.requires c.to_le_bytes-number.ensures))
 
 all-bytes : (c : After-absorb-sponge-2) → let a = c.args in Absorbed 168 (number a.i ++ a.seed.now) c.absorb-sponge-2.result
 all-bytes c =
-    let two = more (number c.args.i) (none (omega arith, omega arith) c.new-sponge.ensures) (number-bytes c.args.i c.requires) c.absorb-sponge.ensures in
+    let two = more (number c.args.i) (none (omega arith, omega arith) c.new-sponge.ensures) (number-bytes c.args.i c.requires) (c.absorb-sponge.ensures ∙ ap (absorb_bytes c.new-sponge.result) (written c.args.i c.requires c.to_le_bytes-number.ensures)) in
     more _ two c.type_inv.seed c.absorb-sponge-2.ensures
-
-pub absorb-sponge-requires : goal.absorb-sponge-requires
-absorb-sponge-requires c = ready (nothing (goal.at.absorb-sponge-requires c).After-new-sponge)
 
 pub absorb-sponge-requires-2 : goal.absorb-sponge-requires-2
 absorb-sponge-requires-2 c = ready (two_bytes (goal.at.absorb-sponge-requires-2 c).After-absorb-sponge)

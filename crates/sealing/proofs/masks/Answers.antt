@@ -7,4 +7,4 @@ pub returns : goal.returns
 returns c =
     let product = c.mul_add_sa_plus_e_from_seed in
     let noise = c.draw in
-    masks_law _ _ c.args.seedse.now c.args.noise.now product.new.noise c.requires.1 noise.ensures noise.auto.out product.auto.noise product.ensures
+    masks_law _ _ c.args.seedse.now c.args.noise.now product.new.noise c.requires.0 noise.ensures noise.auto.out product.auto.noise product.ensures

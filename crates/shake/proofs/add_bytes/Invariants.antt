@@ -1,10 +1,7 @@
 -- `add_bytes` adds byte after byte.
 -- Assumes nothing.
-use mathlib.Core.Path.{◌≡◌}
-use Prim.Native.Nat.{◌≤◌}
-use lib.ListN.{length}
 use Rattle.shake.proofs.Add.{Added}
 use Rattle.shake.proofs.add_bytes.Given as goal
 
 abbrev pub invariant-loop-i : goal.invariant-loop-i
-invariant-loop-i l = (l.i ≤ l.i-end) × (l.i-end ≡ length l.bytes) × Added l.initial.lanes l.k l.i l.bytes l.lanes
+invariant-loop-i l = Added l.initial.lanes l.k l.i l.bytes l.lanes

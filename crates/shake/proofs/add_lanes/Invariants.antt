@@ -1,13 +1,8 @@
--- `add_lanes` adds a lane of eight bytes a turn.
+-- `add_lanes` adds lane after lane.
 -- Assumes nothing.
-use mathlib.Core.Path.{◌≡◌}
-use Prim.Native.Nat.{◌*◌, ◌-◌, ◌/◌, ◌≤◌}
-use lib.ListN.{length}
+use Prim.Native.Nat.{◌*◌}
 use Rattle.shake.proofs.Add.{Added}
 use Rattle.shake.proofs.add_lanes.Given as goal
 
 abbrev pub invariant-loop-t : goal.invariant-loop-t
-invariant-loop-t l = (l.t ≤ l.n) × (l.n ≡ length l.bytes / 8) × Added l.initial.lanes (8 * l.l) (8 * l.t) l.bytes l.lanes
-
-abbrev pub decreases-loop-t : goal.decreases-loop-t
-decreases-loop-t l = l.n - l.t
+invariant-loop-t l = Added l.initial.lanes (8 * l.l) (8 * l.t) l.bytes l.lanes

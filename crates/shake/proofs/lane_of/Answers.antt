@@ -1,15 +1,9 @@
--- `lane_of` reads a lane off a slice, half by half.
+-- `lane_of` reads a lane off eight bytes.
 -- Assumes nothing.
-use mathlib.Core.Path.{ap, ◌∙◌}
+use mathlib.Core.Path.{◌∙◌}
 use native.Mathlib.Omega.{arith}
-use Rattle.lists.proofs.Tables.{known}
-use Rattle.bits.specs.Digits.{number}
-use Rattle.shake.proofs.Lane.{two_halves}
+use Rattle.shake.proofs.Lane.{lane_number}
 use Rattle.shake.proofs.lane_of.Goals as goal
 
-pub overflow_add-result : goal.overflow_add-result
-overflow_add-result c = omega (arith, (two_halves _ _ _ _ _ _ _ _ _ _ c.half-low.ensures c.half-high.ensures).1)
-
 pub returns : goal.returns
-returns c =
-    (two_halves _ _ _ _ _ _ _ _ _ _ c.half-low.ensures c.half-high.ensures).0 ∙ ap (number 256) (known 8 c.args.bytes.now c.requires)
+returns c = c.from_le_bytes.ensures ∙ lane_number c.args.bytes.now (omega arith) c.fits-bytes

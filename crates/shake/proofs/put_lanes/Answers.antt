@@ -4,18 +4,12 @@ use mathlib.Core.Path.{◌≡◌, ap, ◌∙◌}
 use Prim.Native.Nat.{ℕ, ◌+◌, ◌*◌, ◌-◌}
 use native.Mathlib.Omega.{arith}
 use Rattle.lists.specs.Lists.{tab}
-use Rattle.lists.proofs.Loops.{none, moved, all}
-use Rattle.lists.proofs.Spans.{length_part, upto_part}
+use Rattle.lists.proofs.Loops.{moved}
+use Rattle.lists.proofs.Spans.{upto_part}
 use Rattle.lists.proofs.Tables.{tab_cong}
 use Rattle.shake.specs.Sponge.{word_at}
 use Rattle.shake.proofs.Put.{lane_word}
 use Rattle.shake.proofs.put_lanes.Goals as goal
-
-pub loop-t-init : goal.loop-t-init
-loop-t-init c = (omega arith, omega arith, none _ _)
-
-pub put_lane-requires : goal.put_lane-requires
-put_lane-requires c = length_part (4 * c.loop-t.t) 4 c.loop-t.out (omega arith)
 
 pub loop-t-preserved : goal.loop-t-preserved
 loop-t-preserved c =
@@ -34,9 +28,3 @@ loop-t-preserved c =
           ∙ ap (λ (k : ℕ). tab k g) four))
           next,
     )
-
-pub shape_of-out : goal.shape_of-out
-shape_of-out c = c.loop-t.invariant.2.len
-
-pub returns : goal.returns
-returns c = all c.loop-t.invariant.2 (omega arith)

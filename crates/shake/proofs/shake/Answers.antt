@@ -1,19 +1,12 @@
 -- `shake` is SHAKE: a new sponge, its input, the padding, and bytes, by the laws that any caller cites.
 -- Assumes nothing.
 use mathlib.Core.Path.{◌∙◌}
-use mathlib.Core.List.{[]}
 use Rattle.shake.proofs.Uses.{Absorbed, none, more, ready, squeezing, shakes}
 use Rattle.shake.proofs.shake.Goals as goal
 use Rattle.shake.proofs.shake.Goals.{After-absorb-p, After-new-p}
 
-began : (c : After-new-p) → Absorbed c.args.rate [] c.new-p.result
-began c = none c.requires c.new-p.ensures
-
 took : (c : After-absorb-p) → Absorbed c.args.rate c.args.input.now c.absorb-p.result
 took c = more _ (none c.requires c.new-p.ensures) c.type_inv.input c.absorb-p.ensures
-
-pub absorb-p-requires : goal.absorb-p-requires
-absorb-p-requires c = ready (began (goal.at.absorb-p-requires c).After-new-p)
 
 pub finish-p-requires : goal.finish-p-requires
 finish-p-requires c = ready (took (goal.at.finish-p-requires c).After-absorb-p)

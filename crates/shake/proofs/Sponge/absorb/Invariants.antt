@@ -1,14 +1,12 @@
--- `absorb` adds to the block what it has room for, a turn: the invariant is `Took`.
+-- `absorb` adds to the block what it has room for, a turn: what is left is still to be absorbed.
 -- Assumes nothing.
-use mathlib.Core.Path.{◌≡◌}
-use Prim.Native.Nat.{◌-◌, ◌≤◌}
 use lib.ListN.{length}
 use Rattle.shake.specs.Sponge.{made}
-use Rattle.shake.proofs.Absorb.{Took}
+use Rattle.shake.proofs.Absorb.{Left}
 use Rattle.shake.proofs.Sponge.absorb.Given as goal
 
-abbrev pub invariant-loop-i : goal.invariant-loop-i
-invariant-loop-i l = (l.i ≤ l.n) × (l.n ≡ length l.bytes) × Took (made l.initial.lanes l.initial.at l.rate) l.i l.bytes (made l.lanes l.at l.rate)
+abbrev pub invariant-loop-rest : goal.invariant-loop-rest
+invariant-loop-rest l = Left (made l.initial.lanes l.initial.at l.rate) l.bytes (made l.lanes l.at l.rate) l.rest
 
-abbrev pub decreases-loop-i : goal.decreases-loop-i
-decreases-loop-i l = l.n - l.i
+abbrev pub decreases-loop-rest : goal.decreases-loop-rest
+decreases-loop-rest l = length l.rest
