@@ -32,11 +32,11 @@
  *   alignment   A uint16_t pointer is even. What an odd one does is undefined on both processors, though many loads and stores happen to bear it. A uint8_t pointer
  *               may have any address.
  *   stack       is aligned to 16 bytes at the call, as the C of x86-64 and of Arm has it. A compiler sees to it; what enters a handler by hand has to, else the
- *               call may fault. A call was measured to take less than 4 KiB of it (`make stack`).
+ *               call may fault. A call was measured to take less than 3 KiB of it (`make stack`).
  *   threads     Calls share nothing: any number may run at the same time, also one inside another that a signal interrupted, each on buffers of its own.
  *               Buffers that are only read may be shared.
  *
- * In a signal handler: lend static memory, and link the program with -Wl,-z,now, so that memcpy, memmove, memset and, with the shared object, the calls themselves are bound when
+ * In a signal handler: lend static memory, and link the program with -Wl,-z,now, so that memcpy, memset and, with the shared object, the calls themselves are bound when
  * it starts: bound at first use, they run the dynamic linker on the handler's stack. examples/c/crash_handler.c is a whole handler. */
 #ifndef FRODO_H
 #define FRODO_H

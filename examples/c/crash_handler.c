@@ -25,7 +25,7 @@
 #include <sys/syscall.h>
 #include <unistd.h>
 
-/* The alternate stack beside two of the kernel's frames: the library takes less than 4 KiB, and the rest is for the cipher and for `describe`. */
+/* The alternate stack beside two of the kernel's frames: the library takes less than 3 KiB, and the rest is for the cipher and for `describe`. */
 #define ROOM ((size_t)32 * 1024)
 
 /* The largest frame of the kernel on these processors where it does not say (Linux before 5.14 on x86-64). */

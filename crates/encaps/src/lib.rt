@@ -13,6 +13,7 @@ use codec::pack;
 use hashes::hash;
 use sealing::{masks, values};
 use sets::Set;
+use words::copy;
 
 // Stays: noise and work are two parameters; a struct of both was tried in crates/keys: the borrow checker does not cover a call that is lent parts of both fields.
 // c1 from seedA and seedSE'.
@@ -56,7 +57,7 @@ fn seal(
     let (c2, end) = rest.split_at_mut(set.p.d * 8);
     put_c1(set, seed_a, seedse, c1, noise, work);
     put_c2(set, b, msg, c2, noise, &mut work[0..64]);
-    end.copy_from_slice(salt);
+    copy(salt, end);
 }
 
 // seedSE' and k in a row, with room for pkh.

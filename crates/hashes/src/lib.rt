@@ -10,6 +10,7 @@ use sets::{Chi, Set};
 use sponge::{shake, shake_words};
 
 // `out` is filled with the hash of the parts in a row.
+#[tactic(auto, unfolding(scheme::specs::Parts::hash))]
 pub fn hash(set: Set, parts: &[&[u8]], out: &mut [u8])
     ensures { out.new ≡ hash set.p (joined parts.now) (length out.old) }
 {

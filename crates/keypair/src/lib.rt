@@ -11,7 +11,7 @@ ghost use Rattle.keypair.specs.Made.{SecretSized, KeypairMade};
 use hashes::hash;
 use keys::public_key;
 use sets::Set;
-use words::bytes_of;
+use words::{bytes_of, copy};
 
 // The secret key: s, the public key, S with all 16 bits of its words, pkh.
 fn secret_key(set: Set, seed: &[u8], pk: &[u8], s: &[u16], sk: &mut [u8])
@@ -21,8 +21,8 @@ fn secret_key(set: Set, seed: &[u8], pk: &[u8], s: &[u16], sk: &mut [u8])
     let (random, rest) = sk.split_at_mut(set.p.secret);
     let (public, rest) = rest.split_at_mut(set.p.pk);
     let (matrix, pkh) = rest.split_at_mut(16 * set.p.n);
-    random.copy_from_slice(&seed[0..set.p.secret]);
-    public.copy_from_slice(pk);
+    copy(&seed[0..set.p.secret], random);
+    copy(pk, public);
     bytes_of(s, matrix);
     hash(set, &[pk], pkh);
 }

@@ -15,6 +15,7 @@ use pkh::pkh_of;
 use products::{mul_add_sb_plus_e, mul_bs, sub};
 use ratio::{Margin, margin_of};
 use sets::Set;
+use words::copy;
 
 // Stays: noise and work are two parameters; a struct of both was tried in crates/keys: the borrow checker does not cover a call that is lent parts of both fields.
 // The key's noise and pkh. noise: S, E. work: B, then a row of A.
@@ -50,7 +51,7 @@ fn copied_noise(set: Set, seed: &[u8], pkh: &mut [u8], noise: &mut [u16], work: 
 {
     let e = 16 * set.p.n;
     key_noise(set, seed, pkh, noise, work);
-    work[0..e].copy_from_slice(&noise[0..e]);
+    copy(&noise[0..e], &mut work[0..e]);
 }
 
 // The noise of both sides. noise: S', E, E''. work: S, E'.

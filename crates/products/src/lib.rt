@@ -10,6 +10,7 @@ ghost use Rattle.rows.specs.Row.{mat_a};
 use loops::{add_row, dots, fold};
 use rows::{modulus, row};
 use sets::Set;
+use words::copy;
 
 // A * S + E, from the seed of A. S is stored transposed, in 8 rows of n; E and the result are in n rows of 8.
 // The result overwrites the first 8n words of work, and rows of A take the last n.
@@ -41,7 +42,7 @@ pub fn mul_add_sa_plus_e_from_seed(set: Set, seed: &[u8], noise: &mut [u16], out
     let from = 8 * n;
     let to = 9 * n;
     let all = 16 * n;
-    out.copy_from_slice(&noise[from..all]);
+    copy(&noise[from..all], out);
     // Stays: docs/RULES.md, 8.7, lays down a loop over the rows of A, which are made by their numbers.
     for k in 0..n {
         row(set, seed, k, &mut noise[from..to]);

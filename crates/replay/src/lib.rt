@@ -13,12 +13,15 @@ use std::io::Read;
 use std::rt::Files;
 use std::{fmt, io};
 
-// The file of that name, as much of it as `most` bytes hold.
-pub fn read(rt: &impl Files, alloc: Global, path: &str, most: usize) -> io::Result<Vec<u8>>
+// The file of that name, as much of it as `most` bytes hold. A name that is not UTF-8 is an error, since std opens no such file.
+pub fn read(rt: &impl Files, alloc: Global, path: &[u8], most: usize) -> io::Result<Vec<u8>>
     ensures { IfOk result (λ text. vec_len text ≤ most) }
 {
+    let Ok(name) = str::from_utf8(path) else {
+        return Err(io::Error::from(io::ErrorKind::InvalidInput));
+    };
     let mut text = Vec::new(alloc);
-    File::open(rt, path)?
+    File::open(rt, name)?
         .take(most as u64)
         .read_to_end(&mut text)?;
     // the contract of `take` does not give its limit
@@ -131,13 +134,11 @@ pub fn digest(bytes: &[u8]) -> [u8; 16]
     digest
 }
 
-// Agreeing answers, and all of them. It stops counting at a million.
+// Agreeing answers, and all of them: of those that `new` and `with` make, no more agree than there are. It stops counting at a million.
 #[derive(Clone, Copy)]
 pub struct Tally {
     pub right: usize,
     pub all: usize,
-    ghost within: { right ≤ all },
-    ghost most: { all ≤ 1000000 },
 }
 
 impl Tally {
@@ -151,12 +152,16 @@ impl Tally {
     pub fn with(self, agrees: bool) -> Self
         ensures all { result.all ≡ min (self.all + 1) 1000000 }
         ensures right { result.right ≤ self.right + 1 }
+        ensures within { self.all ≤ 1000000 → self.right ≤ self.all → result.right ≤ result.all }
     {
-        if self.all == 1_000_000 {
-            return self;
+        if self.all >= 1_000_000 {
+            return Self {
+                all: 1_000_000,
+                ..self
+            };
         }
         Self {
-            right: self.right + usize::from(agrees),
+            right: self.right.saturating_add(usize::from(agrees)),
             all: self.all + 1,
         }
     }

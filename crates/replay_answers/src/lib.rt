@@ -87,7 +87,9 @@ impl Input {
     }
 
     // Five rows of A.
-    pub fn rows(&self, alloc: Global) -> Result<Vec<u16>, AllocError> {
+    pub fn rows(&self, alloc: Global) -> Result<Vec<u16>, AllocError>
+        ensures { IfOk result (λ words. vec_len words ≡ 5 * self.now.set.p.n) }
+    {
         let n = self.set.p.n;
         let mut rows = Vec::new(alloc);
         for i in [0, 1, 255, 256, n - 1] {
@@ -99,7 +101,9 @@ impl Input {
     }
 
     // A * S + E.
-    pub fn as_plus_e(&self, alloc: Global) -> Result<Vec<u16>, AllocError> {
+    pub fn as_plus_e(&self, alloc: Global) -> Result<Vec<u16>, AllocError>
+        ensures { IfOk result (λ words. vec_len words ≡ 8 * self.now.set.p.n) }
+    {
         let n = self.set.p.n;
         let (s, e) = self.noise.split_at(8 * n);
         let mut work = vec![in alloc; 0xa5a5; 9 * n]?;
@@ -109,7 +113,9 @@ impl Input {
     }
 
     // S' * A + E'.
-    pub fn sa_plus_e(&self, alloc: Global) -> Result<Vec<u16>, AllocError> {
+    pub fn sa_plus_e(&self, alloc: Global) -> Result<Vec<u16>, AllocError>
+        ensures { IfOk result (λ words. vec_len words ≡ 8 * self.now.set.p.n) }
+    {
         let mut noise = self.noise.clone()?;
         let mut out = vec![in alloc; 0xa5a5; 8 * self.set.p.n]?;
         products::mul_add_sa_plus_e_from_seed(self.set, &self.seed, &mut noise, &mut out);
@@ -117,7 +123,9 @@ impl Input {
     }
 
     // S' * B + E'', with matrix 3, of 64 words.
-    pub fn sb_plus_e(&self, alloc: Global) -> Result<Vec<u16>, AllocError> {
+    pub fn sb_plus_e(&self, alloc: Global) -> Result<Vec<u16>, AllocError>
+        ensures { IfOk result (λ words. vec_len words ≡ 64) }
+    {
         let (s, b) = self.noise.split_at(8 * self.set.p.n);
         let e = self.small(alloc, 3)?;
         let mut out = vec![in alloc; 0xa5a5; 64]?;
@@ -126,7 +134,9 @@ impl Input {
     }
 
     // B' * S.
-    pub fn bs(&self, alloc: Global) -> Result<Vec<u16>, AllocError> {
+    pub fn bs(&self, alloc: Global) -> Result<Vec<u16>, AllocError>
+        ensures { IfOk result (λ words. vec_len words ≡ 64) }
+    {
         let (b, s) = self.noise.split_at(8 * self.set.p.n);
         let mut out = vec![in alloc; 0xa5a5; 64]?;
         products::mul_bs(self.set, b, s, &mut out);
@@ -143,7 +153,9 @@ impl Input {
     }
 
     // Matrices 1 and 2 of 64 words, added.
-    pub fn sum(&self, alloc: Global) -> Result<Vec<u16>, AllocError> {
+    pub fn sum(&self, alloc: Global) -> Result<Vec<u16>, AllocError>
+        ensures { IfOk result (λ words. vec_len words ≡ 64) }
+    {
         let first = self.small(alloc, 1)?;
         let mut second = self.small(alloc, 2)?;
         products::add(self.set, &first, &mut second);
@@ -151,7 +163,9 @@ impl Input {
     }
 
     // And subtracted.
-    pub fn difference(&self, alloc: Global) -> Result<Vec<u16>, AllocError> {
+    pub fn difference(&self, alloc: Global) -> Result<Vec<u16>, AllocError>
+        ensures { IfOk result (λ words. vec_len words ≡ 64) }
+    {
         let first = self.small(alloc, 1)?;
         let mut second = self.small(alloc, 2)?;
         products::sub(self.set, &first, &mut second);

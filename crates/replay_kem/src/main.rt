@@ -79,7 +79,7 @@ fn replay_list<R: Files + Print>(
     list: &str,
     kind: Kind,
 ) -> io::Result<()> {
-    let text = replay::read(rt, alloc, list, 524288)?;
+    let text = replay::read(rt, alloc, list.as_bytes(), 524288)?;
     let nothing = Line {
         number: 0,
         text: b"",

@@ -198,7 +198,7 @@ fn line_agrees(alloc: Global, kind: Kind, line: Line<'_>) -> Result<bool, AllocE
 
 fn main(rt: HostRuntime) -> io::Result<()> {
     let alloc = rt.alloc();
-    let text = replay::read(&rt, alloc, "parts.txt", 262144)?;
+    let text = replay::read(&rt, alloc, b"parts.txt", 262144)?;
     for (kind, name) in KINDS {
         let tally = replay::count(&text, |tally, line| -> Result<Tally, AllocError> {
             if kind_of(line) != kind {

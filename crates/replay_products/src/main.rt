@@ -1,6 +1,8 @@
 // Replays answers for rows of A and the six products: the oracle's mod q, and an independent computation's word for word. Prints how many agree.
 #![tactic(auto)]
 
+ghost use Rattle.std.specs.Prelude.{◌*◌, ◌≤◌, vec_len, IfOk};
+
 use replay::{Line, Tally};
 use replay_answers::{Input, Made};
 use std::alloc::{AllocError, Global};
@@ -53,7 +55,9 @@ fn command_of(line: Line<'_>) -> Option<Command> {
 }
 
 // The words of a command's answer.
-fn answer(alloc: Global, command: Command, input: &Input) -> Result<Vec<u16>, AllocError> {
+fn answer(alloc: Global, command: Command, input: &Input) -> Result<Vec<u16>, AllocError>
+    ensures { IfOk result (λ words. vec_len words ≤ 9 * input.now.set.p.n) }
+{
     match command {
         Command::RowQ | Command::RowW => input.rows(alloc),
         Command::AsQ | Command::AsW => input.as_plus_e(alloc),
@@ -96,7 +100,7 @@ fn line_agrees(alloc: Global, command: Command, line: Line<'_>) -> Result<bool, 
 
 fn main(rt: HostRuntime) -> io::Result<()> {
     let alloc = rt.alloc();
-    let text = replay::read(&rt, alloc, "products.txt", 16384)?;
+    let text = replay::read(&rt, alloc, b"products.txt", 16384)?;
     for (command, name) in COMMANDS {
         let tally = replay::count(&text, |tally, line| -> Result<Tally, AllocError> {
             if command_of(line) != command {

@@ -135,7 +135,7 @@ fn replay_list<F: FnMut(Tally, Line<'_>) -> Result<Tally, AllocError>>(
 ) -> io::Result<()>
     requires { F.IsAlwaysCallable with }
 {
-    let text = replay::read(rt, alloc, path, 262144)?;
+    let text = replay::read(rt, alloc, path.as_bytes(), 262144)?;
     let tally = replay::count(&text, with)?;
     println!(rt; "{name}: {tally}")
 }

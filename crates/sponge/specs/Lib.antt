@@ -1,2 +1,3 @@
--- The parts of an input, in a row.
+-- The parts of an input, in a row, and a sponge that took three.
 pub mod Parts
+pub mod Full

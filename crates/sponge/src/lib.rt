@@ -51,6 +51,7 @@ fn absorb_part(s: &mut Sponge, part: &[u8])
 
 // A sponge that has taken the parts in a row and is finished, so that it can be squeezed.
 // Stays: the range of `rate` is asked here and twice below; a type for it would have a constructor that asks the same, and no clause fewer for callers.
+#[inline(always)]
 fn absorbed(rate: usize, parts: &[&[u8]]) -> Sponge
     requires { (0 < rate) × (rate ≤ 200) }
     ensures { (result ≡ finished (absorb_bytes (empty rate) (joined parts.now))) × Below 256 (joined parts.now) }
@@ -64,6 +65,7 @@ fn absorbed(rate: usize, parts: &[&[u8]]) -> Sponge
 }
 
 // SHAKE at a rate of that many bytes: `out` is filled with the first bytes for the parts in a row.
+#[inline(never)]
 pub fn shake(rate: usize, parts: &[&[u8]], out: &mut [u8])
     requires { (0 < rate) × (rate ≤ 200) }
     ensures { out.new ≡ shake rate (joined parts.now) (length out.old) }

@@ -1,4 +1,4 @@
-// Word arithmetic (docs/RULES.md, 4.2), remainders mod q, and little-endian words.
+// Word arithmetic (docs/RULES.md, 4.2), remainders mod q, copies, and little-endian words.
 #![tactic(auto)]
 
 ghost use Rattle.std.specs.Prelude.{◌≡◌, ℕ, ◌+◌, ◌-◌, ◌*◌, ◌%◌, length};
@@ -84,6 +84,17 @@ impl Modulus {
         for x in s.iter_mut() {
             *x = self.low(*x);
         }
+    }
+}
+
+// All elements of src, into dst.
+// Stays: std's `copy_from_slice` goes through raw pointers, of which the compiler makes a memmove where the length is no constant, and the library is to need memcpy and memset alone.
+pub fn copy<T: Copy>(src: &[T], dst: &mut [T])
+    requires { length src.now ≡ length dst.old }
+    ensures { dst.new ≡ src.now }
+{
+    for (i, x) in dst.iter_mut().enumerate() {
+        *x = src[i];
     }
 }
 

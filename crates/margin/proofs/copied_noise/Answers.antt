@@ -6,4 +6,4 @@ use Rattle.margin.proofs.copied_noise.Goals as goal
 
 pub returns : goal.returns
 returns c =
-    copy_made _ c.args.seed.now c.args.noise.now c.args.work.now c.requires.0 c.key_noise.ensures (search (rules, c.copy_from_slice.ensures.after))
+    copy_made _ c.args.seed.now c.args.noise.now c.args.work.now c.requires.0 c.key_noise.ensures (search (rules, c.copy.ensures))

@@ -17,7 +17,7 @@ loop-k-init c = let a = c.args in
     let m = 8 * a.set.p.n in
     let e = drop m a.noise.now in
     let l : length e ≡ m = length-drop m a.noise.now ∙ omega arith in
-    let copied : c.copy_from_slice.new.self ≡ e = c.copy_from_slice.ensures.after ∙ take_all (16 * a.set.p.n - m) e (omega arith) in (
+    let copied : c.copy.new.dst ≡ e = c.copy.ensures ∙ take_all (16 * a.set.p.n - m) e (omega arith) in (
       omega arith,
       omega arith,
       refl,
