@@ -119,7 +119,7 @@ pub fn margin(
         (record { set = set; seed = seed.now; msg = msg.now; salt = salt.now; noise = noise.old; work = work.old })
         (record { margin = answered result; noise = noise.new; work = work.new }) }
 {
-    let set = sets::choose(set).ok_or(Refusal::UnknownSet)?; // as in every call
+    let set = sets::choose(set).ok_or(Refusal::UnknownSet)?; // before any length is looked at
     lengths::margin(
         set,
         seed.len(),

@@ -90,7 +90,12 @@ impl<'a> Line<'a> {
     pub fn bytes(self, alloc: Global, k: usize, most: usize) -> Result<Vec<u8>, AllocError>
         ensures { IfOk result (λ v. vec_len v ≤ most) }
     {
-        self.pairs(k).iter().take(most).map(byte).collect(alloc)
+        let pairs = self.pairs(k);
+        let mut bytes = vec![in alloc; 0; pairs.len().min(most)]?;
+        for (b, pair) in bytes.iter_mut().zip(pairs) {
+            *b = byte(pair);
+        }
+        Ok(bytes)
     }
 
     // The first N bytes of field k, with zeros where there are fewer.
@@ -150,18 +155,16 @@ impl Tally {
 
     // With one answer more.
     pub fn with(self, agrees: bool) -> Self
-        ensures all { result.all ≡ min (self.all + 1) 1000000 }
+        ensures most { result.all ≤ self.all + 1 }
+        ensures all { self.all ≤ 1000000 → self.right ≤ self.all → result.all ≡ min (self.all + 1) 1000000 }
         ensures right { result.right ≤ self.right + 1 }
         ensures within { self.all ≤ 1000000 → self.right ≤ self.all → result.right ≤ result.all }
     {
-        if self.all >= 1_000_000 {
-            return Self {
-                all: 1_000_000,
-                ..self
-            };
+        if self.all >= 1_000_000 || self.right >= 1_000_000 {
+            return self;
         }
         Self {
-            right: self.right.saturating_add(usize::from(agrees)),
+            right: self.right + usize::from(agrees),
             all: self.all + 1,
         }
     }

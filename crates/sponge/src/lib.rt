@@ -51,6 +51,7 @@ fn absorb_part(s: &mut Sponge, part: &[u8])
 
 // A sponge that has taken the parts in a row and is finished, so that it can be squeezed.
 // Stays: the range of `rate` is asked here and twice below; a type for it would have a constructor that asks the same, and no clause fewer for callers.
+// Compiled into its two callers, for the stack's sake (docs/DECISIONS.md, "The lent sponge").
 #[inline(always)]
 fn absorbed(rate: usize, parts: &[&[u8]]) -> Sponge
     requires { (0 < rate) × (rate ≤ 200) }
@@ -65,6 +66,7 @@ fn absorbed(rate: usize, parts: &[&[u8]]) -> Sponge
 }
 
 // SHAKE at a rate of that many bytes: `out` is filled with the first bytes for the parts in a row.
+// A function of its own, for the stack's sake.
 #[inline(never)]
 pub fn shake(rate: usize, parts: &[&[u8]], out: &mut [u8])
     requires { (0 < rate) × (rate ≤ 200) }
