@@ -90,12 +90,7 @@ impl<'a> Line<'a> {
     pub fn bytes(self, alloc: Global, k: usize, most: usize) -> Result<Vec<u8>, AllocError>
         ensures { IfOk result (λ v. vec_len v ≤ most) }
     {
-        let pairs = self.pairs(k);
-        let mut bytes = vec![in alloc; 0; pairs.len().min(most)]?;
-        for (b, pair) in bytes.iter_mut().zip(pairs) {
-            *b = byte(pair);
-        }
-        Ok(bytes)
+        self.pairs(k).iter().take(most).map(byte).collect(alloc)
     }
 
     // The first N bytes of field k, with zeros where there are fewer.

@@ -186,14 +186,21 @@ fn agrees(
     }
 }
 
-// One line of a kind: KIND SET, and its bytes.
+// How many bytes field k has.
+fn length(line: Line<'_>, k: usize) -> usize {
+    line.field(k).unwrap_or(&[]).len() / 2
+}
+
+// One line of a kind: KIND SET, and its bytes, of which 128 and 64 are looked at.
 fn line_agrees(alloc: Global, kind: Kind, line: Line<'_>) -> Result<bool, AllocError> {
     let Some(set) = sets::choose(line.decimal(1)) else {
         return Ok(false);
     };
-    let third = line.bytes(alloc, 2, 128)?;
-    let fourth = line.bytes(alloc, 3, 64)?;
-    agrees(alloc, set, kind, &third, &fourth)
+    let third: [u8; 128] = line.array(2);
+    let fourth: [u8; 64] = line.array(3);
+    let third = &third[..length(line, 2).min(128)];
+    let fourth = &fourth[..length(line, 3).min(64)];
+    agrees(alloc, set, kind, third, fourth)
 }
 
 fn main(rt: HostRuntime) -> io::Result<()> {
