@@ -1,12 +1,13 @@
 -- `pkh::pkh_of` meets its contract: after k turns the sponge has taken seedA and the first 8k words of B, packed.
 -- Assumes nothing.
 use borrow.Author.Rules.{rules}
-use mathlib.Core.Path.{ap, subst, ◌∙◌}
-use mathlib.Core.List.{List, [], ◌++◌}
+use mathlib.Core.Path.{subst, ◌∙◌}
+use mathlib.Core.List.{List, ◌++◌}
 use Prim.Native.Nat.{ℕ, ◌*◌, ◌/◌, ◌<◌}
 use native.Mathlib.Omega.{arith}
-use lib.ListN.{length, get_or}
+use lib.ListN.{length}
 use lib.Seq.{take_all}
+use Rattle.std.proofs.lemmas.Grind.{common_steps}
 use Rattle.shake.proofs.Uses.{Absorbed, none, more, ready, squeezing}
 use Rattle.shake.proofs.Eights.{eight_at}
 use Rattle.codec.specs.Pack.{packed}
@@ -33,11 +34,12 @@ pub absorb_eight-more-requires : goal.absorb_eight-more-requires
 absorb_eight-more-requires c = let l = c.loop-eight in
     (ready (absorbed_words (seeded (goal.at.absorb_eight-more-requires c).After-absorb-sponge) l.invariant.1), eight_pack c.args.set.p.d _ c.args.set.valid.d_cases (omega arith), omega (arith, bits_le c.args.set.valid))
 
+-- the chunk is found by grind: so this holds of a loop over a part of b too, where that part is all of it (must-fail/first_words_left_out leaves eight words out)
 pub loop-eight-preserved : goal.loop-eight-preserved
 loop-eight-preserved c =
     let l = c.loop-eight in
     let room : l.eight-index < length c.args.b.now / 8 = omega (arith, c.loop-eight-test.true, c.as_chunks.ensures.front_len) in
-    (search rules, took_eight l.invariant.1 room (ap (λ (es : List (List ℕ)). get_or es l.eight-index []) c.as_chunks.ensures.front ∙ eight_at _ _ c.args.b.now room) c.absorb_eight-more.ensures)
+    (search rules, took_eight l.invariant.1 room (grind (arith, common_steps, eight_at, c.as_chunks.ensures.front)) c.absorb_eight-more.ensures)
 
 pub finish-sponge-requires : goal.finish-sponge-requires
 finish-sponge-requires c = ready (whole (goal.at.finish-sponge-requires c).After-loop-eight)

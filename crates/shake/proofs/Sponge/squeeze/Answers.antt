@@ -3,6 +3,7 @@
 use Prim.Native.Nat.{◌≤◌}
 use native.Mathlib.Omega.{arith}
 use mathlib.Core.Path.{◌∙◌}
+use Rattle.std.proofs.lemmas.Grind.{common_steps}
 use Rattle.lists.proofs.Loops.{none, more, all}
 use Rattle.shake.specs.Sponge.{squeezed}
 use Rattle.shake.proofs.Squeeze.{gave_none, gave_ready, gave_byte, gave_next, gave_all}
@@ -28,8 +29,9 @@ loop-byte-preserved c =
     let turn = c.next_block-k.ensures in
     (gave_next gave turn, more c.loop-byte.invariant.1 c.loop-byte-test.true (c.byte_at.ensures ∙ gave_byte gave turn))
 
+-- found by grind: so it holds of a loop over a part of `out` too, where that part is all of it (must-fail/squeeze_too_few leaves one byte out)
 pub returns : goal.returns
 unfolding squeezed
 returns c =
-    let over = c.loop-byte-test.false in
-    (all c.loop-byte.invariant.1 (omega (arith, over)), gave_all _ c.loop-byte.invariant.0 (omega (arith, over)))
+    let written = all c.loop-byte.invariant.1 (omega (arith, c.loop-byte-test.false)) in
+    (grind (arith, common_steps, written), gave_all _ c.loop-byte.invariant.0 (grind arith))
