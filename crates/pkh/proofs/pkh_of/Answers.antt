@@ -34,7 +34,7 @@ pub absorb_eight-more-requires : goal.absorb_eight-more-requires
 absorb_eight-more-requires c = let l = c.loop-eight in
     (ready (absorbed_words (seeded (goal.at.absorb_eight-more-requires c).After-absorb-sponge) l.invariant.1), eight_pack c.args.set.p.d _ c.args.set.valid.d_cases (omega arith), omega (arith, bits_le c.args.set.valid))
 
--- the chunk is found by grind: so this holds of a loop over a part of b too, where that part is all of it (must-fail/first_words_left_out leaves eight words out)
+-- the chunk is found by grind: so an edit of the form of must-fail/first_words_left_out is proved where it leaves no words out
 pub loop-eight-preserved : goal.loop-eight-preserved
 loop-eight-preserved c =
     let l = c.loop-eight in

@@ -29,7 +29,7 @@ loop-byte-preserved c =
     let turn = c.next_block-k.ensures in
     (gave_next gave turn, more c.loop-byte.invariant.1 c.loop-byte-test.true (c.byte_at.ensures ∙ gave_byte gave turn))
 
--- found by grind: so it holds of a loop over a part of `out` too, where that part is all of it (must-fail/squeeze_too_few leaves one byte out)
+-- found by grind: so an edit of the form of must-fail/squeeze_too_few is proved where it leaves no byte out
 pub returns : goal.returns
 unfolding squeezed
 returns c =
