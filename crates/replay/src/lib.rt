@@ -3,9 +3,11 @@
 #![tactic(auto)]
 
 ghost use Rattle.std.specs.Prelude.{◌≡◌, ◌==◌, ◌+◌, ◌≤◌, ◌<◌, true, length, get_or, min, slice_get, vec_len, IfOk};
+ghost use Rattle.std.specs.Iterator.{IsFinite};
 ghost use Rattle.std.specs.List.{slice_split};
 ghost use Rattle.std.specs.Option.{option_map};
 ghost use Rattle.shake.specs.Shake.{shake};
+ghost use Rattle.replay.specs.Counted.{Counted, KeepsCounted};
 
 use std::alloc::{AllocError, Global};
 use std::fs::File;
@@ -173,19 +175,34 @@ impl fmt::Display for Tally {
     }
 }
 
-// Counts the answers of a list: `with` adds those of a line that says something.
-pub fn count<E, F: FnMut(Tally, Line<'_>) -> Result<Tally, E>>(
-    text: &[u8],
-    mut with: F,
-) -> Result<Tally, E>
-    requires { F.IsAlwaysCallable with }
+// Counts the answers of those lines.
+// A function of its own: what `with` keeps stands in the loop's invariant, and rt check takes none of a loop over `split` in a function with type parameters.
+fn count_lines<'a, I, E, F>(lines: I, with: &mut F) -> Result<Tally, E>
+where
+    I: Iterator<Item = (usize, &'a [u8])>,
+    F: FnMut(Tally, Line<'_>) -> Result<Tally, E>,
+    requires can { I.can_next lines }
+    requires finite { IsFinite (I.remaining lines) }
+    requires callable { F.IsAlwaysCallable with.old }
+    ensures { KeepsCounted F.step → IfOk result Counted }
 {
     let mut tally = Tally::new();
-    for (number, text) in (1..).zip(text.split(|b| *b == b'\n')) {
+    for (number, text) in lines {
         let line = Line { number, text };
         if !line.is_comment() {
             tally = with(tally, line)?;
         }
     }
     Ok(tally)
+}
+
+// Counts the answers of a list: `with` adds those of a line that says something. Where it keeps what `Counted` says of a tally, the answer is so, too.
+pub fn count<E, F: FnMut(Tally, Line<'_>) -> Result<Tally, E>>(
+    text: &[u8],
+    mut with: F,
+) -> Result<Tally, E>
+    requires { F.IsAlwaysCallable with }
+    ensures { KeepsCounted F.step → IfOk result Counted }
+{
+    count_lines((1..).zip(text.split(|b| *b == b'\n')), &mut with)
 }

@@ -1,8 +1,9 @@
 // Replays SHAKE answers: the published ones, and a list around each block's edge. Prints how many of each kind agree.
 #![tactic(auto)]
 
-ghost use Rattle.std.specs.Prelude.{◌≡◌, ◌%◌, ◌≤◌, ◌<◌};
+ghost use Rattle.std.specs.Prelude.{◌≡◌, ◌%◌, ◌≤◌, ◌<◌, IfOk};
 ghost use Rattle.shake.specs.Sponge.{Squeezing, Even};
+ghost use Rattle.replay.specs.Counted.{Counted};
 
 use replay::{Line, Tally};
 use shake::Sponge;
@@ -102,7 +103,9 @@ impl Answer {
     }
 
     // At one output length: in one call, and with input and output cut there.
-    fn at_length(&self, alloc: Global, tally: Tally, len: usize) -> Result<Tally, AllocError> {
+    fn at_length(&self, alloc: Global, tally: Tally, len: usize) -> Result<Tally, AllocError>
+        ensures { Counted tally → IfOk result Counted }
+    {
         let (first, _) = self.output.split_at(len.min(self.output.len()));
         let tally = tally.with(self.begins_with(alloc, first)?);
         Ok(tally.with(self.holds_cut(alloc, len)?))
@@ -110,13 +113,17 @@ impl Answer {
 }
 
 // A published line, in one call.
-fn published(alloc: Global, tally: Tally, line: Line<'_>) -> Result<Tally, AllocError> {
+fn published(alloc: Global, tally: Tally, line: Line<'_>) -> Result<Tally, AllocError>
+    ensures { Counted tally → IfOk result Counted }
+{
     let answer = Answer::of(alloc, line)?;
     Ok(tally.with(answer.begins_with(alloc, &answer.output)?))
 }
 
 // A line around a block's edge, at every length of the list, and in words.
-fn edges(alloc: Global, tally: Tally, line: Line<'_>) -> Result<Tally, AllocError> {
+fn edges(alloc: Global, tally: Tally, line: Line<'_>) -> Result<Tally, AllocError>
+    ensures { Counted tally → IfOk result Counted }
+{
     let answer = Answer::of(alloc, line)?;
     let mut tally = tally.with(answer.holds_in_words());
     for len in LENGTHS {

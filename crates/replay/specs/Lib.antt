@@ -1,0 +1,2 @@
+-- What is promised of a tally.
+pub mod Counted
